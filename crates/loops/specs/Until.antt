@@ -1,0 +1,52 @@
+-- A loop with fuel that may stop early: `until done f n a` applies f to a until `done` says so, and n times at most.
+-- A loop's invariant says that what is left to do, `until done f left` of the state as it is, equals the whole.
+use mathlib.Core.Path.{_≡_, refl, sym, ap, _∙_}
+use mathlib.Core.Bool.{Bool, true, false}
+use Prim.Native.Nat.{ℕ, zero, suc, _+_, _-_, _<_}
+use native.Mathlib.Nat.{zero-add, suc-add}
+use native.Mathlib.Omega.{arith}
+
+-- `elim`, and no `cond`: only the case that is taken is computed
+unfoldable pub until : {A : Type 0} → (A → Bool) → (A → A) → ℕ → A → A
+until done f zero a = a
+until done f (suc n) a = elim (done a) [ true ↦ a | false ↦ until done f n (f a) ]
+
+-- the fuel is used up
+pub until-out : {A : Type 0} (done : A → Bool) (f : A → A) (a : A) → until done f 0 a ≡ a
+unfolding until
+until-out done f a = refl
+
+-- it stops here, whatever fuel is left
+pub until-stop : {A : Type 0} (done : A → Bool) (f : A → A) (n : ℕ) (a : A) → done a ≡ true → until done f n a ≡ a
+unfolding until
+until-stop done f zero a h = refl
+until-stop done f (suc n) a h = rw (until, h)
+
+step : {A : Type 0} (done : A → Bool) (f : A → A) (m : ℕ) (a : A) → done a ≡ false → until done f (suc m) a ≡ until done f m (f a)
+unfolding until
+step done f m a h = rw (until, h)
+
+-- one turn, at the code's n - 1
+pub until-turn : {A : Type 0} (done : A → Bool) (f : A → A) (n : ℕ) (a : A) → 0 < n → done a ≡ false → until done f n a ≡ until done f (n - 1) (f a)
+until-turn done f n a p h =
+    let e : n ≡ suc (n - 1) = omega arith in
+    ap (λ k. until done f k a) e ∙ step done f (n - 1) a h
+
+-- what each turn keeps, the whole keeps
+pub until-hold : {A : Type 0} (P : A → Type 0) (done : A → Bool) (f : A → A) (n : ℕ) (a : A) → ((x : A) → P x → P (f x)) → P a → P (until done f n a)
+unfolding until
+until-hold P done f zero a keep h = h
+until-hold P done f (suc n) a keep h = go (done a) (until-hold P done f n (f a) keep (keep a h))
+  where
+    go : (b : Bool) → P (until done f n (f a)) → P (elim b [ true ↦ a | false ↦ until done f n (f a) ])
+    go true k = h
+    go false k = k
+
+-- fuel used in two portions: what the first leaves, the second takes up
+pub until-portions : {A : Type 0} (done : A → Bool) (f : A → A) (m n : ℕ) (a : A) → until done f (m + n) a ≡ until done f n (until done f m a)
+until-portions done f zero n a = rw zero-add (ap (until done f n) (sym (until-out done f a)))
+until-portions done f (suc m) n a = rw suc-add (go (done a) refl (until-portions done f m n (f a)))
+  where
+    go : (b : Bool) → done a ≡ b → until done f (m + n) (f a) ≡ until done f n (until done f m (f a)) → until done f (suc (m + n)) a ≡ until done f n (until done f (suc m) a)
+    go true h later = until-stop done f (suc (m + n)) a h ∙ sym (ap (until done f n) (until-stop done f (suc m) a h) ∙ until-stop done f n a h)
+    go false h later = step done f (m + n) a h ∙ later ∙ sym (ap (until done f n) (step done f m a h))

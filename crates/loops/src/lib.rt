@@ -1,0 +1,1 @@
+// No code: the words that every definition of the port is written with are in specs/.

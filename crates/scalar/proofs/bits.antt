@@ -1,0 +1,2 @@
+-- Laws of patterns that more than one module's proofs use.
+pub mod Patterns

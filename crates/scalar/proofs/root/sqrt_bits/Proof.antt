@@ -1,0 +1,29 @@
+-- `scalar::root::sqrt_bits` meets its contract: the three calls, one inside the other. Assumes nothing.
+use Prim.Native.Nat.{ℕ}
+use mathlib.Core.Path.{_≡_, ap, _∙_}
+use lib.Ieee.{toBits, binary64}
+use borrow.Author.Needs.{needs}
+use Rattle.scalar.specs.Root.{rootOf, rootBits}
+use Rattle.scalar.proofs.root.Special.{nan-bits-root}
+use Rattle.scalar.proofs.root.sqrt_bits.Statement.{statement}
+use Rattle.scalar.proofs.root.sqrt_bits.Tie as tie
+
+of-bits-requires : tie.Need-of-bits-requires
+of-bits-requires c κs = search needs
+
+sqrt-requires : tie.Need-sqrt-requires
+sqrt-requires c κs = search needs
+
+bits-of-requires : tie.Need-bits-of-requires
+bits-of-requires c κs = search needs
+
+-- what the three calls make is `rootBits` of the pattern
+made : (c : tie.After-bits-of) → c .bits-of .result ≡ rootBits (c .before .before .before .args .w)
+unfolding rootBits
+made c = rw (c .bits-of .ensures, c .before .sqrt .ensures, c .before .before .of-bits .ensures)
+
+returns : tie.Need-returns
+returns c = (made c, λ t. made c ∙ nan-bits-root _ t)
+
+pub sqrt-bits-spec : {M : Type 1} → statement M
+sqrt-bits-spec = tie.close (tie.spec of-bits-requires sqrt-requires bits-of-requires returns)

@@ -1,0 +1,53 @@
+-- A number in two words, and the three places where a candidate for the root is taken. Assumes nothing.
+use Prim.Native.Nat.{ℕ, zero, suc, _+_, _-_, _*_, _/_, _%_, _^_, _≤_, _<_}
+use mathlib.Core.Path.{_≡_, refl, sym, ap, _∙_}
+use native.Mathlib.Nat.{mul-le-mul}
+use native.Mathlib.Omega.{arith}
+use Rattle.scalar.specs.Rooted.{Near}
+use Rattle.scalar.specs.Inner.{valueOf}
+
+-- (a * 2 ^ 27 + c) ^ 2, in parts that stay within a word
+pub squared : (a c : ℕ)
+    → valueOf (a * a / 1024 + a * c / 68719476736) (a * c % 68719476736 * 268435456) + c * c + a * a % 1024 * 18014398509481984 ≡ (a * 134217728 + c) * (a * 134217728 + c)
+squared a c = omega arith
+
+-- X + r = r * r + up
+pub take-it : (X r up : ℕ) → X + r ≡ r * r + up → 0 < up → up ≤ r * 2 → Near X r
+take-it X r up e p h = record { below = omega arith; above = omega arith }
+
+pub take-next : (X r up : ℕ) → X + r ≡ r * r + up → r * 2 < up → up ≤ r * 2 + r * 2 + 2 → Near X (r + 1)
+take-next X r up e p h = record { below = omega arith; above = omega arith }
+
+-- r * r = X + r + down
+pub take-last : (X r down : ℕ) → r * r ≡ X + r + down → down < r * 2 - 2 → Near X (r - 1)
+take-last X zero down e h = absurd (no h)
+  where
+    no : down < 0 * 2 - 2 → ⊥
+    no l = omega arith
+take-last X (suc r) down e h = let b : suc r - 1 ≡ r = omega arith in record { below = rw b (omega arith); above = rw b (omega arith) }
+
+pub scaled-words : (top : ℕ) → valueOf (top / 4194304) (top % 4194304 * 4398046511104) ≡ top * 2 ^ 42
+scaled-words top = omega arith
+
+pub record Halves (a c : ℕ) : Type 0 where
+  pub high : a * a ≤ 2 ^ 52
+  pub mixed : a * c ≤ 2 ^ 53
+  pub low : c * c ≤ 2 ^ 54
+
+pub halves : (r : ℕ) → r < 2 ^ 53 → Halves (r / 134217728) (r % 134217728)
+halves r h =
+    let a = r / 134217728 in
+    let c = r % 134217728 in
+    let p : a ≤ 2 ^ 26 = omega arith in
+    let q : c ≤ 2 ^ 27 = omega arith in
+    record { high = mul-le-mul p p; mixed = mul-le-mul p q; low = mul-le-mul q q }
+
+-- a difference whose lower word runs round
+pub gap-carry : (ah al bh bl lo : ℕ) → al < 2 ^ 64 → lo < 2 ^ 64 → (lo + bl) % 2 ^ 64 ≡ al → al < bl → bl < 2 ^ 64 → ah ≡ bh + 1 → valueOf ah al ≡ valueOf bh bl + lo
+gap-carry ah al bh bl lo a l w h b e = omega arith
+
+pub gap-plain : (ah al bh bl lo : ℕ) → al < 2 ^ 64 → lo < 2 ^ 64 → (lo + bl) % 2 ^ 64 ≡ al → bl ≤ al → bl < 2 ^ 64 → ah ≡ bh → valueOf ah al ≡ valueOf bh bl + lo
+gap-plain ah al bh bl lo a l w h b e = omega arith
+
+pub small-high : (hi top : ℕ) → hi ≤ top / 4194304 + 1 → top < 2 ^ 64 → hi < 2 ^ 63
+small-high hi top h t = omega arith

@@ -1,0 +1,29 @@
+-- What the root of a positive finite number is, in the words of document 01, over whole numbers alone.
+-- Proved of the definition in `proofs/Theorem.antt` (`root-is`: the root of every such x is one; `no-tie`) and in `proofs/Unique.antt`
+-- (`root-one`: nothing else is).
+use Prim.Native.Nat.{ℕ, _+_, _-_, _*_, _^_, _≤_, _<_}
+use lib.Dec.{T}
+use mathlib.Core.Bool.{false}
+use lib.Ieee.{Float, binary64, fits}
+use lib.Ieee.Exact.{HasValue}
+
+-- R is the whole number nearest to the root of X: (2 * R - 1) ^ 2 < 4 * X < (2 * R + 1) ^ 2, divided by 4
+pub record Near (X R : ℕ) : Type 0 where
+  pub below : R * R < X + R
+  pub above : X ≤ R * R + R
+
+-- r is the root of x. `scale` is F + 589, so x is X * 2 ^ (2 * F) and r is R * 2 ^ F. `HasValue x false a c` says that x is a / c.
+pub record Rooted (x r : Float) : Type 0 where
+  pub X : ℕ
+  pub R : ℕ
+  pub scale : ℕ
+  pub from : HasValue x false (X * 2 ^ (2 * scale)) (2 ^ 1178)
+  pub low : 2 ^ 104 ≤ X
+  pub high : X < 2 ^ 106
+  pub below : (2 * R - 1) * (2 * R - 1) < 4 * X
+  pub above : 4 * X < (2 * R + 1) * (2 * R + 1)
+  pub root : HasValue r false (R * 2 ^ scale) (2 ^ 589)
+  -- R has 53 digits, and r is a value of the format
+  pub least : 2 ^ 52 ≤ R
+  pub most : R < 2 ^ 53
+  pub holds : T (fits binary64 r)
