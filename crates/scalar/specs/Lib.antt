@@ -3,4 +3,6 @@
 pub mod Root
 pub mod Rooted
 pub mod Known
+pub mod Sign
+pub mod Class
 pub mod Inner

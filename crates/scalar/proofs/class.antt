@@ -1,0 +1,2 @@
+-- Laws of the tests on one number.
+pub mod Difference

@@ -1,0 +1,2 @@
+-- Laws of sign and magnitude.
+pub mod Laws
