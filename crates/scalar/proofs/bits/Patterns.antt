@@ -8,6 +8,7 @@ use lib.Ieee.{Float, nan, inf, fin, binary64, ofBits, toBits, fits, div, lt, ne,
 use lib.Ieee.Bits.{is-true, ofBits-toBits, nanBits-is, nanBits-above}
 use lib.Ieee.Compare.{differs-from-itself, nan-differs}
 use borrow.Author.Tests.{le-ltb, lt-ltb}
+use Rattle.loops.specs.Tests.{truth, falsity}
 
 is-nan : (x : Float) → isNan x ≡ true → x ≡ nan
 unfolding isNan
@@ -24,12 +25,12 @@ pub nan-pattern : (w : ℕ) → 9218868437227405312 < w % 9223372036854775808 �
 nan-pattern w h = is-nan (ofBits binary64 w) (sym (nanBits-is binary64 w) ∙ nanBits-above binary64 w ∙ lt-ltb _ _ h)
 
 pub no-pattern : (w : ℕ) → w % 9223372036854775808 ≤ 9218868437227405312 → T (not (nanBits binary64 w))
-no-pattern w h = subst (λ (b : Bool). T (not b)) (sym (nanBits-above binary64 w ∙ le-ltb _ _ h)) tt
+no-pattern w h = falsity (nanBits-above binary64 w ∙ le-ltb _ _ h)
 
 -- ---- of a float: x != x
 
 pub only-nan : (x : Float) → ne x x ≡ true → x ≡ nan
-only-nan x e = differs-from-itself x (subst T (sym e) tt)
+only-nan x e = differs-from-itself x (truth e)
 
 pub no-nan : (x : Float) → ne x x ≡ false → T (not (isNan x))
 unfolding isNan

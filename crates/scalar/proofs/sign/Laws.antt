@@ -11,16 +11,11 @@ use lib.Ieee.Bits.{toBits-lt, ofBits-fits}
 use lib.Ieee.Back.{whole-unique}
 use lib.Ieee.Compare.{nan-differs}
 use lib.Ieee.Fits.{and-l}
+use Rattle.loops.specs.Tests.{truth, falsity}
 use Rattle.loops.specs.Constants.{one, minusOne}
 use Rattle.loops.specs.Constants.{zero as zeroF}
 use Rattle.scalar.specs.Sign.{modulusOf, signumOf}
 use Rattle.scalar.proofs.bits.Patterns.{only-nan}
-
-truth : {b : Bool} → b ≡ true → T b
-truth e = subst T (sym e) tt
-
-falsity : {b : Bool} → b ≡ false → T (not b)
-falsity e = subst (λ b. T (not b)) (sym e) tt
 
 -- ---- below 0
 

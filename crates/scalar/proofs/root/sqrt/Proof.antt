@@ -1,7 +1,7 @@
-use mathlib.Core.Path.{refl, sym, ap, _∙_, subst}
+use mathlib.Core.Path.{refl, sym, ap, _∙_}
 use native.Mathlib.Omega.{arith}
-use lib.Dec.{T}
-use lib.Ieee.{fits, binary64}
+use lib.Ieee.{binary64}
+use Rattle.loops.specs.Tests.{truth}
 use lib.Ieee.Bits.{toBits-lt}
 use Rattle.scalar.specs.Root.{rootOf}
 use Rattle.scalar.proofs.bits.Patterns.{quiet, no-nan, no-pattern, back}
@@ -13,9 +13,6 @@ use Rattle.scalar.proofs.root.sqrt.Reads as reads
 use Rattle.scalar.proofs.root.sqrt.Lts as lts
 use Rattle.scalar.proofs.root.root_bits.Reads as root-bits-reads
 
-held : (c : tie.Start) → T (fits binary64 (c .args .x))
-held c = subst T (sym (c .good .0 .1)) tt
-
 returns : tie.Need-returns
 returns c = quiet ∙ sym (nan-root _ (c .if1 .taken))
 
@@ -23,7 +20,7 @@ float-to-bits-w : tie.Need-float-to-bits-w
 float-to-bits-w c = no-nan _ (c .if1 .left)
 
 returns-2 : tie.Need-returns-2
-returns-2 c = own-root _ 0 (held (c .before .before)) (c .if2 .taken) root-zero
+returns-2 c = own-root _ 0 (truth (c .before .before .good .0 .1)) (c .if2 .taken) root-zero
 
 root-bits-requires : tie.Need-root-bits-requires
 root-bits-requires c κs = search needs
@@ -32,17 +29,17 @@ float-from-bits-result : tie.Need-float-from-bits-result
 float-from-bits-result c = no-pattern _ (omega (arith, c .root-bits .ensures .1))
 
 returns-3 : tie.Need-returns-3
-returns-3 c = c .root-bits .ensures .0 ∙ ap rootOf (sym (back _ _ (held (c .before .before .before .before)) refl))
+returns-3 c = c .root-bits .ensures .0 ∙ ap rootOf (sym (back _ _ (truth (c .before .before .before .before .good .0 .1)) refl))
 
 returns-4 : tie.Need-returns-4
-returns-4 c = own-root _ _ (held (c .before .before .before .before)) (c .if4 .taken) root-infinity
+returns-4 c = own-root _ _ (truth (c .before .before .before .before .good .0 .1)) (c .if4 .taken) root-infinity
 
 returns-5 : tie.Need-returns-5
-returns-5 c = own-root _ _ (held (c .before .before .before .before .before)) (c .if5 .taken) root-minus-zero
+returns-5 c = own-root _ _ (truth (c .before .before .before .before .before .good .0 .1)) (c .if5 .taken) root-minus-zero
 
 returns-6 : tie.Need-returns-6
 returns-6 c =
-    let h = held (c .before .before .before .before .before) in
+    let h = truth (c .before .before .before .before .before .good .0 .1) in
     quiet ∙ sym (root-else _ (omega arith) (c .if5 .left) (toBits-lt binary64 _ h)) ∙ ap rootOf (sym (back _ _ h refl))
 
 pub sqrt-spec : {M : Type 1} → statement M

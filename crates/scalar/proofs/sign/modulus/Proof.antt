@@ -1,20 +1,15 @@
 -- `scalar::sign::modulus` meets its contract: each way out by the comparisons on it. That x fits the format is what owning an f64 tells;
 -- it makes a zero the canonical one. Assumes nothing.
-use mathlib.Core.Path.{sym, subst}
-use lib.Dec.{T}
-use lib.Ieee.{binary64, fits}
+use Rattle.loops.specs.Tests.{truth}
 use Rattle.scalar.proofs.sign.Laws.{below-zero, equal-zero, above-zero}
 use Rattle.scalar.proofs.sign.modulus.Statement.{statement}
 use Rattle.scalar.proofs.sign.modulus.Tie as tie
-
-held : (c : tie.Start) → T (fits binary64 (c .args .x))
-held c = subst T (sym (c .good .0 .1)) tt
 
 returns : tie.Need-returns
 returns c = below-zero _ (c .if1 .taken)
 
 returns-2 : tie.Need-returns-2
-returns-2 c = equal-zero _ (held (c .before .before)) (c .if2 .taken)
+returns-2 c = equal-zero _ (truth (c .before .before .good .0 .1)) (c .if2 .taken)
 
 returns-3 : tie.Need-returns-3
 returns-3 c = above-zero _ (c .before .if1 .left) (c .if2 .left)

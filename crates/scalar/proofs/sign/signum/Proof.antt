@@ -1,14 +1,9 @@
 -- `scalar::sign::signum` meets its contract: the pattern of a float with its sign bit set is 2 ^ 63 or more. Assumes nothing.
-use mathlib.Core.Path.{sym, ap, _∙_, subst}
-use lib.Dec.{T}
-use lib.Ieee.{binary64, fits}
-use Rattle.scalar.proofs.bits.Patterns.{only-nan, no-nan}
+use Rattle.loops.specs.Tests.{truth}
+use Rattle.scalar.proofs.bits.Patterns.{no-nan}
 use Rattle.scalar.proofs.sign.Laws.{own-sign, sign-clear, sign-set}
 use Rattle.scalar.proofs.sign.signum.Statement.{statement}
 use Rattle.scalar.proofs.sign.signum.Tie as tie
-
-held : (c : tie.Start) → T (fits binary64 (c .args .x))
-held c = subst T (sym (c .good .0 .1)) tt
 
 returns : tie.Need-returns
 returns c = own-sign _ (c .if1 .taken)
@@ -20,7 +15,7 @@ returns-2 : tie.Need-returns-2
 returns-2 c = sign-clear _ (c .before .if1 .left) (c .if2 .taken)
 
 returns-3 : tie.Need-returns-3
-returns-3 c = sign-set _ (held (c .before .before)) (c .before .if1 .left) (c .if2 .left)
+returns-3 c = sign-set _ (truth (c .before .before .good .0 .1)) (c .before .if1 .left) (c .if2 .left)
 
 pub signum-spec : {M : Type 1} → statement M
 signum-spec = tie.close (tie.spec returns float-to-bits-if2 returns-2 returns-3)
