@@ -1,0 +1,133 @@
+//! The crate's side: nalgebra's real Schur decomposition with run-time (`Dyn`) dimensions.
+//!
+//! Matrices are lists of n * n entries, column by column.
+
+use nalgebra::{DMatrix, Schur};
+
+/// T and Q of a matrix, or `None` where the counted passes reach the budget. A budget of 0 is none
+/// at all: the crate then goes on for as long as it takes.
+pub fn schur(
+    order: usize,
+    entries: &[f64],
+    tolerance: f64,
+    budget: usize,
+) -> Option<(Vec<f64>, Vec<f64>)> {
+    let matrix = DMatrix::from_column_slice(order, order, entries);
+    let (q, t) = Schur::try_new(matrix, tolerance, budget)?.unpack();
+    Some((t.as_slice().to_vec(), q.as_slice().to_vec()))
+}
+
+/// The pass count, which the crate does not tell: the largest budget from 1 on that gives `None`,
+/// or 0 if none does. `None` where even `limit`, a budget of at least 1, is not enough.
+pub fn passes(order: usize, entries: &[f64], tolerance: f64, limit: usize) -> Option<usize> {
+    let refused = |budget| schur(order, entries, tolerance, budget).is_none();
+    // A run that is refused at one budget is refused at every smaller one, so the count lies
+    // between two bounds: `low` is refused, or 0; `high` is accepted, once the doubling has ended.
+    let mut low = 0;
+    let mut high = 1;
+    while refused(high) {
+        if high >= limit {
+            return None;
+        }
+        low = high;
+        high = (high * 2).min(limit);
+    }
+    while low + 1 < high {
+        let middle = low + (high - low) / 2;
+        if refused(middle) {
+            low = middle;
+        } else {
+            high = middle;
+        }
+    }
+    Some(low)
+}
+
+#[cfg(test)]
+mod tests {
+    use super::*;
+    use crate::random::Random;
+
+    const TOLERANCE: f64 = f64::EPSILON;
+    /// The block with rows (0 -1), (1 0).
+    const J: [f64; 4] = [0.0, 1.0, -1.0, 0.0];
+
+    fn bits(entries: &[f64]) -> Vec<u64> {
+        entries.iter().map(|x| x.to_bits()).collect()
+    }
+
+    fn assert_schur(order: usize, entries: &[f64], t: &[f64], q: &[f64]) {
+        let (found_t, found_q) = schur(order, entries, TOLERANCE, 1).expect("accepted at budget 1");
+        assert_eq!(bits(&found_t), bits(t));
+        assert_eq!(bits(&found_q), bits(q));
+        assert_eq!(passes(order, entries, TOLERANCE, 1), Some(0));
+    }
+
+    /// A matrix with these blocks of order 1 and 2 on its diagonal.
+    fn diagonal(blocks: &[&[f64]]) -> DMatrix<f64> {
+        let side = |block: &[f64]| if block.len() == 1 { 1 } else { 2 };
+        let order = blocks.iter().map(|block| side(block)).sum();
+        let mut matrix = DMatrix::zeros(order, order);
+        let mut at = 0;
+        for block in blocks {
+            let n = side(block);
+            matrix.view_mut((at, at), (n, n)).copy_from_slice(block);
+            at += n;
+        }
+        matrix
+    }
+
+    fn passes_of(blocks: &[&[f64]], limit: usize) -> Option<usize> {
+        let matrix = diagonal(blocks);
+        passes(matrix.nrows(), matrix.as_slice(), TOLERANCE, limit)
+    }
+
+    #[test]
+    fn item_a_order_1() {
+        assert_schur(1, &[5.0], &[5.0], &[1.0]);
+    }
+
+    #[test]
+    fn item_b_a_standing_block() {
+        assert_schur(2, &J, &J, &[1.0, 0.0, 0.0, 1.0]);
+        let run = Schur::try_new(DMatrix::from_column_slice(2, 2, &J), TOLERANCE, 1).unwrap();
+        assert!(run.eigenvalues().is_none());
+        let pair: Vec<_> = run
+            .complex_eigenvalues()
+            .iter()
+            .map(|z| (z.re, z.im))
+            .collect();
+        assert_eq!(pair, [(0.0, 1.0), (0.0, -1.0)]);
+    }
+
+    #[test]
+    fn item_c_zeros() {
+        let (t, _) = schur(3, &[0.0; 9], TOLERANCE, 1).expect("accepted at budget 1");
+        assert_eq!(t, [0.0; 9]);
+        assert_eq!(passes(3, &[0.0; 9], TOLERANCE, 1), Some(0));
+    }
+
+    #[test]
+    fn items_e_f_g_count_passes() {
+        assert_eq!(passes_of(&[&J, &[2.0]], 10), Some(0));
+        assert_eq!(passes_of(&[&J, &J], 1), None);
+        assert_eq!(passes_of(&[&J, &J], 2), Some(1));
+        assert_eq!(passes_of(&[&[1.0], &[2.0], &J], 1), None);
+        assert_eq!(passes_of(&[&[1.0], &[2.0], &J], 10), Some(1));
+    }
+
+    #[test]
+    fn counts_as_a_linear_search_does() {
+        let mut random = Random::stream(1, 0);
+        for order in 3..12 {
+            let entries: Vec<f64> = (0..order * order)
+                .map(|_| random.below(1000) as f64 - 500.0)
+                .collect();
+            let by_steps = (1..)
+                .find(|&budget| schur(order, &entries, TOLERANCE, budget).is_some())
+                .unwrap()
+                - 1;
+            assert_eq!(passes(order, &entries, TOLERANCE, 1000), Some(by_steps));
+        }
+    }
+}

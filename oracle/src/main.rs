@@ -1,0 +1,46 @@
+//! Compares the Rattle port of nalgebra's real Schur decomposition with the crate itself.
+//!
+//! `oracle/run COMMAND` builds what is needed and runs one command of the table below. The exit
+//! status is 0 if the two agree, 1 if a difference was found, 2 if the command could not be run.
+
+mod crate_side;
+mod door;
+mod random;
+mod root;
+mod scalar;
+mod versions;
+
+use std::process::ExitCode;
+
+/// Runs a command on its arguments. It answers the number of differences, or why it could not run.
+type Run = fn(&[String]) -> Result<usize, String>;
+
+/// Each command with its arguments. README.md says what it does.
+const COMMANDS: &[(&str, &str, Run)] = &[
+    ("root", "[--count MILLIONS] [--seed HEX]", root::run),
+    ("scalar", "[--write]", scalar::run),
+    ("versions", "", versions::run),
+];
+
+fn main() -> ExitCode {
+    let arguments: Vec<String> = std::env::args().skip(1).collect();
+    let Some((name, rest)) = arguments.split_first() else {
+        return usage("no command");
+    };
+    let Some((_, _, run)) = COMMANDS.iter().find(|command| command.0 == name) else {
+        return usage(&format!("no command `{name}`"));
+    };
+    match run(rest) {
+        Ok(0) => ExitCode::SUCCESS,
+        Ok(_) => ExitCode::from(1),
+        Err(why) => usage(&format!("{name}: {why}")),
+    }
+}
+
+fn usage(why: &str) -> ExitCode {
+    eprintln!("oracle: {why}\nusage:");
+    for (name, arguments, _) in COMMANDS {
+        eprintln!("  oracle/run {name} {arguments}");
+    }
+    ExitCode::from(2)
+}
