@@ -8,6 +8,7 @@ mod door;
 mod random;
 mod root;
 mod scalar;
+mod sums;
 mod versions;
 
 use std::process::ExitCode;
@@ -19,6 +20,7 @@ type Run = fn(&[String]) -> Result<usize, String>;
 const COMMANDS: &[(&str, &str, Run)] = &[
     ("root", "[--count MILLIONS] [--seed HEX]", root::run),
     ("scalar", "[--write]", scalar::run),
+    ("sums", "", sums::run),
     ("versions", "", versions::run),
 ];
 

@@ -1,5 +1,5 @@
 -- A part of a list, and a part rewritten: what `&t[a..e]` holds, and what `f(&mut t[a..e])` leaves of t.
-use mathlib.Core.Path.{_≡_, refl, sym, ap, _∙_}
+use mathlib.Core.Path.{_≡_, ap, _∙_}
 use mathlib.Core.List.{List, _++_}
 use Prim.Native.Nat.{ℕ, _+_, _-_, _≤_, _<_}
 use native.Mathlib.Omega.{arith}

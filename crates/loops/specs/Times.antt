@@ -2,7 +2,7 @@
 -- `range f a b s` is `for i in a..b`: s after turns a, a + 1, .., b - 1, and s itself where b ≤ a.
 -- A loop's invariant says that the state is `times f i` (or `range f a i`) of the state at the start: `-none` begins it, `-more` keeps it,
 -- `-done` ends it. What a loop does to all it runs over is `-hold`; what it leaves alone, `-frame`; what one turn put somewhere, `-at`.
-use mathlib.Core.Path.{_≡_, refl, ap, _∙_}
+use mathlib.Core.Path.{_≡_, refl, _∙_}
 use mathlib.Core.Logic.{_≢_}
 use mathlib.Core.List.{List}
 use Prim.Native.Nat.{ℕ, zero, suc, _+_, _-_, _<_, _≤_, max}

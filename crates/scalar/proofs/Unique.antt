@@ -1,8 +1,8 @@
 -- `Rooted` has one solution: whatever value of binary64 meets the words of the scope is `rootOf`. Assumes nothing.
 use Prim.Native.Nat.{ℕ, zero, suc, _+_, _-_, _*_, _/_, _^_, _≤_, _<_}
-use mathlib.Core.Path.{_≡_, refl, sym, ap, _∙_, subst}
-use mathlib.Core.Bool.{Bool, true, false, not, cond, true≢false}
-use native.Mathlib.Nat.{lt-irrefl, mul-assoc, mul-comm, mul-right-comm, mul-left-comm, mul-pos, mul-le-mul-left, mul-div-cancel, zero-mul, zero-add, eq-of-mul-eq-mul-right, lt-of-lt-of-le}
+use mathlib.Core.Path.{_≡_, sym, ap, _∙_, subst}
+use mathlib.Core.Bool.{Bool, true, false, not, true≢false}
+use native.Mathlib.Nat.{lt-irrefl, mul-assoc, mul-right-comm, mul-pos, mul-le-mul-left, mul-div-cancel, zero-mul, eq-of-mul-eq-mul-right}
 use native.Mathlib.Omega.{arith}
 use lib.IntN.{ℤ}
 use lib.Dec.{T, leb, leb→le, nleb→lt}

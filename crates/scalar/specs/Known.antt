@@ -1,7 +1,6 @@
 -- Worked roots, by evaluation: bits in, bits out.
-use Prim.Native.Nat.{ℕ}
 use mathlib.Core.Path.{_≡_, refl}
-use mathlib.Core.List.{List, [], _∷_, map}
+use mathlib.Core.List.{[], _∷_, map}
 use lib.Ieee.{ofBits, toBits}
 use Rattle.scalar.specs.Root.{floorRoot, wholeRoot, scaleOf, scaled, unitsRoot, rootOf, rootBits}
 

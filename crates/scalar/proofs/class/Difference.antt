@@ -1,10 +1,10 @@
 -- x less itself is 0 for a finite x, and NaN for any other: which is how the code tests for finite. Assumes nothing.
-use Prim.Native.Nat.{ℕ, _+_, _-_, _*_, _^_, _<_}
-use mathlib.Core.Path.{_≡_, refl, sym, ap, _∙_, subst}
+use Prim.Native.Nat.{ℕ, _-_, _*_, _<_}
+use mathlib.Core.Path.{_≡_, refl, sym, _∙_}
 use mathlib.Core.Bool.{Bool, true, false, Bool·beq, _&&_, _||_, cond}
 use native.Mathlib.Nat.{mul-pos, zero-mul, eq-of-mul-eq-mul-right, sub-self}
 use native.Mathlib.Omega.{arith}
-use lib.Dec.{T, eqb, ltb}
+use lib.Dec.{eqb, ltb}
 use lib.Pow.{pow-pos}
 use lib.Ieee.{Float, nan, inf, fin, binary64, up, down, round, sum, sub, add, neg, eq, ofBits}
 use lib.Ieee.Fits.{down-pos}

@@ -1,9 +1,9 @@
 -- The whole-number root: what `floorRoot` and `wholeRoot` are, and that the inequalities have one solution. Assumes nothing.
-use Prim.Native.Nat.{ℕ, zero, suc, _+_, _-_, _*_, _/_, _%_, _^_, _≤_, _<_}
-use mathlib.Core.Path.{_≡_, refl, sym, ap, _∙_, subst}
+use Prim.Native.Nat.{ℕ, zero, suc, _+_, _-_, _*_, _/_, _^_, _≤_, _<_}
+use mathlib.Core.Path.{_≡_, sym, subst}
 use mathlib.Core.Bool.{Bool, true, false, not, cond}
 use mathlib.Core.Logic.{_≢_, _⊎_, inl, inr}
-use native.Mathlib.Nat.{mul-le-mul, mul-le-mul-right, pow-suc, pow-succ', lt-of-not-le, le-antisymm, eq-or-lt-of-le}
+use native.Mathlib.Nat.{mul-le-mul, mul-le-mul-right, pow-succ', eq-or-lt-of-le}
 use native.Mathlib.Omega.{arith}
 use lib.Dec.{T, leb, ltb, leb→le, nleb→lt, ltb→lt, nltb→le}
 use Rattle.scalar.specs.Root.{floorRoot, wholeRoot}

@@ -1,12 +1,12 @@
 -- The invariants of the two loops, and what a turn of each does. Assumes nothing.
 use Prim.Native.Nat.{ℕ, zero, suc, _+_, _-_, _*_, _/_, _%_, _^_, _≤_, _<_}
-use mathlib.Core.Path.{_≡_, refl, sym, ap, _∙_, subst}
+use mathlib.Core.Path.{_≡_, sym, ap, _∙_, subst}
 use mathlib.Core.Logic.{_≢_}
 use native.Mathlib.Nat.{lt-of-lt-of-le}
 use native.Mathlib.Omega.{arith}
 use lib.Pow.{pow-add, pow-mono}
 use Rattle.scalar.specs.Rooted.{Near}
-use Rattle.scalar.specs.Inner.{unitsOf, Placed}
+use Rattle.scalar.specs.Inner.{Placed}
 use Rattle.scalar.proofs.root.Units.{unitsOf-low, unitsOf-normal}
 
 -- ---- digit by digit: after k digits the whole part of S * 4 ^ k / 2 ^ 64 is root * root + rem

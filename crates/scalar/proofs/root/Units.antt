@@ -2,8 +2,8 @@
 use Prim.Native.Nat.{ℕ, zero, suc, _+_, _-_, _*_, _/_, _%_, _^_, _≤_, _<_}
 use mathlib.Core.Path.{_≡_, refl, sym, ap, _∙_, subst}
 use mathlib.Core.Bool.{Bool, true, false, not, cond, true≢false, false≢true}
-use mathlib.Core.Logic.{_≢_, _⊎_, inl, inr}
-use native.Mathlib.Nat.{lt-of-not-le, le-trans, lt-irrefl, lt-of-lt-of-le, lt-of-le-of-lt, not-le-of-lt, mul-assoc, mul-comm, mul-one, zero-mul, mul-pos, mul-le-mul-right, mul-lt-mul-of-pos-right, mul-div-cancel, zero-lt-suc}
+use mathlib.Core.Logic.{_≢_}
+use native.Mathlib.Nat.{lt-of-not-le, lt-irrefl, lt-of-lt-of-le, not-le-of-lt, mul-one, zero-mul, mul-pos, mul-le-mul-right, mul-lt-mul-of-pos-right, mul-div-cancel}
 use native.Mathlib.Omega.{arith}
 use lib.Dec.{T, leb, ltb, eqb, leb→le, nleb→lt, ltb→lt, nltb→le}
 use lib.IntN.{ℤ, pos, negsuc}

@@ -1,12 +1,9 @@
 use Prim.Native.Nat.{_-_}
 use native.Mathlib.Omega.{arith}
 use mathlib.Core.Logic.{⊎-elim}
-use Rattle.scalar.specs.Rooted.{Near}
 use Rattle.scalar.proofs.root.Steps.{Digits, digits-none, digits-one, digits-zero, digits-all, rest-up, rest-down}
 use Rattle.scalar.proofs.root.digits.Statement.{statement}
 use Rattle.scalar.proofs.root.digits.Tie as tie
-use Rattle.scalar.proofs.root.digits.Reads as reads
-use Rattle.scalar.proofs.root.digits.Lts as lts
 
 abbrev Inv-loop : tie.InvT-loop
 Inv-loop top left₀ rem₀ root₀ k₀ left rem root k = Digits top left rem root k

@@ -4,8 +4,6 @@ use Rattle.scalar.proofs.bits.Patterns.{no-pattern, below-no-nan}
 use borrow.Author.Needs.{needs}
 use Rattle.scalar.proofs.root.guess.Statement.{statement}
 use Rattle.scalar.proofs.root.guess.Tie as tie
-use Rattle.scalar.proofs.root.guess.Reads as reads
-use Rattle.scalar.proofs.root.guess.Lts as lts
 
 add-b : tie.Need-add-b
 add-b c = search needs

@@ -2,8 +2,6 @@ use native.Mathlib.Omega.{arith}
 use Rattle.scalar.proofs.root.Steps.{Lift, lift-none, lift-left, lift-more, lift-all}
 use Rattle.scalar.proofs.root.lifted.Statement.{statement}
 use Rattle.scalar.proofs.root.lifted.Tie as tie
-use Rattle.scalar.proofs.root.lifted.Reads as reads
-use Rattle.scalar.proofs.root.lifted.Lts as lts
 
 abbrev Inv-loop : tie.InvT-loop
 Inv-loop w top₀ h₀ top h = Lift w top h

@@ -6,10 +6,6 @@ use Rattle.scalar.proofs.root.NearOne.{bits-near}
 use borrow.Author.Needs.{needs}
 use Rattle.scalar.proofs.root.root_bits.Statement.{statement}
 use Rattle.scalar.proofs.root.root_bits.Tie as tie
-use Rattle.scalar.proofs.root.root_bits.Reads as reads
-use Rattle.scalar.proofs.root.root_bits.Lts as lts
-use Rattle.scalar.proofs.root.scaled.Reads as scaled-reads
-use Rattle.scalar.proofs.root.whole.Reads as whole-reads
 
 add-result : tie.Need-add-result
 add-result c = search needs

@@ -4,9 +4,6 @@ use Rattle.scalar.proofs.root.Steps.{placed-even, placed-odd}
 use borrow.Author.Needs.{needs}
 use Rattle.scalar.proofs.root.scaled.Statement.{statement}
 use Rattle.scalar.proofs.root.scaled.Tie as tie
-use Rattle.scalar.proofs.root.scaled.Reads as reads
-use Rattle.scalar.proofs.root.scaled.Lts as lts
-use Rattle.scalar.proofs.root.lifted.Reads as lifted-reads
 
 lifted-requires : tie.Need-lifted-requires
 lifted-requires c κs = search needs

@@ -9,9 +9,6 @@ use Rattle.scalar.proofs.root.Special.{nan-root, own-root, root-zero, r
 use borrow.Author.Needs.{needs}
 use Rattle.scalar.proofs.root.sqrt.Statement.{statement}
 use Rattle.scalar.proofs.root.sqrt.Tie as tie
-use Rattle.scalar.proofs.root.sqrt.Reads as reads
-use Rattle.scalar.proofs.root.sqrt.Lts as lts
-use Rattle.scalar.proofs.root.root_bits.Reads as root-bits-reads
 
 returns : tie.Need-returns
 returns c = quiet ∙ sym (nan-root _ (c .if1 .taken))

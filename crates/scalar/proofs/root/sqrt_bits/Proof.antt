@@ -1,9 +1,7 @@
 -- `scalar::root::sqrt_bits` meets its contract: the three calls, one inside the other. Assumes nothing.
-use Prim.Native.Nat.{ℕ}
-use mathlib.Core.Path.{_≡_, ap, _∙_}
-use lib.Ieee.{toBits, binary64}
+use mathlib.Core.Path.{_≡_, _∙_}
 use borrow.Author.Needs.{needs}
-use Rattle.scalar.specs.Root.{rootOf, rootBits}
+use Rattle.scalar.specs.Root.{rootBits}
 use Rattle.scalar.proofs.root.Special.{nan-bits-root}
 use Rattle.scalar.proofs.root.sqrt_bits.Statement.{statement}
 use Rattle.scalar.proofs.root.sqrt_bits.Tie as tie

@@ -1,17 +1,10 @@
-use Prim.Native.Nat.{ℕ, _+_, _*_, _^_, _<_}
-use mathlib.Core.Path.{_≡_, sym, ap, _∙_}
+use Prim.Native.Nat.{_+_, _*_, _^_, _<_}
+use mathlib.Core.Path.{_≡_}
 use native.Mathlib.Omega.{arith}
 use Rattle.scalar.proofs.words.Laws.{scaled-words, small-high, take-it, take-next, take-last}
 use borrow.Author.Needs.{needs}
 use Rattle.scalar.proofs.root.whole.Statement.{statement}
 use Rattle.scalar.proofs.root.whole.Tie as tie
-use Rattle.scalar.proofs.root.whole.Reads as reads
-use Rattle.scalar.proofs.root.whole.Lts as lts
-use Rattle.scalar.proofs.root.digits.Reads as digits-reads
-use Rattle.scalar.proofs.words.gap.Reads as gap-reads
-use Rattle.scalar.proofs.root.guess.Reads as guess-reads
-use Rattle.scalar.proofs.words.plus.Reads as plus-reads
-use Rattle.scalar.proofs.words.square.Reads as square-reads
 
 guess-requires : tie.Need-guess-requires
 guess-requires c κs = search needs

@@ -5,9 +5,6 @@ use Rattle.scalar.proofs.words.Laws.{gap-carry, gap-plain}
 use borrow.Author.Needs.{needs}
 use Rattle.scalar.proofs.words.gap.Statement.{statement}
 use Rattle.scalar.proofs.words.gap.Tie as tie
-use Rattle.scalar.proofs.words.gap.Reads as reads
-use Rattle.scalar.proofs.words.gap.Lts as lts
-use Rattle.std.proofs.num.wrapping_sub_u64.Reads as wrapping-sub-u64-reads
 
 wrapping-sub-u64-requires : tie.Need-wrapping-sub-u64-requires
 wrapping-sub-u64-requires c κs = search needs

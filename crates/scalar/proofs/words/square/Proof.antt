@@ -6,9 +6,6 @@ use Rattle.scalar.proofs.words.Laws.{Halves, halves, squared}
 use borrow.Author.Needs.{needs}
 use Rattle.scalar.proofs.words.square.Statement.{statement}
 use Rattle.scalar.proofs.words.square.Tie as tie
-use Rattle.scalar.proofs.words.square.Reads as reads
-use Rattle.scalar.proofs.words.square.Lts as lts
-use Rattle.scalar.proofs.words.plus.Reads as plus-reads
 
 parts : (c : tie.Start) → Halves (c .args .r / 134217728) (c .args .r % 134217728)
 parts c = halves _ (c .pre)
