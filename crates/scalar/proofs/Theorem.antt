@@ -13,7 +13,7 @@ use lib.Ieee.Fits.{and-l, and-r, down-pos, odd-fits, nan-fits, inf-fits}
 use lib.Ieee.Exact.{HasValue, odd-sign}
 use Rattle.scalar.specs.Root.{scaleOf, scaled, unitsRoot, rootOf, wholeRoot}
 use Rattle.scalar.specs.Rooted.{Near, Rooted}
-use Rattle.scalar.proofs.root.Nearest.{wholeRoot-near, near-low, near-high, in-words}
+use Rattle.scalar.proofs.root.Whole.{wholeRoot-near, near-low, near-high, in-words}
 use Rattle.scalar.proofs.root.Units.{odd-both}
 
 -- ---- the digits of n

@@ -13,7 +13,7 @@ use lib.Ieee.Fits.{down-pos}
 use lib.Ieee.Exact.{HasValue}
 use Rattle.scalar.specs.Root.{rootOf}
 use Rattle.scalar.specs.Rooted.{Near}
-use Rattle.scalar.proofs.root.Nearest.{near-one, from-words}
+use Rattle.scalar.proofs.root.Whole.{near-one, from-words}
 use Rattle.scalar.specs.Rooted.{Rooted}
 use Rattle.scalar.proofs.Theorem.{root-is}
 

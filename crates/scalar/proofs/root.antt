@@ -1,5 +1,5 @@
 -- Laws on plain numbers and on patterns that the proofs of the root's functions share.
-pub mod Nearest
+pub mod Whole
 pub mod Units
 pub mod Steps
 pub mod NearOne

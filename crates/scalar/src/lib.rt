@@ -2,6 +2,7 @@
 // and from bit patterns.
 mod bits;
 mod class;
+mod guess;
 mod root;
 mod sign;
 mod words;

@@ -1,11 +1,17 @@
-// The square root of an f64, correctly rounded: whole numbers decide, a guess from floats only saves time.
+// The square root of an f64, correctly rounded: whole numbers decide, and a guess only saves time.
+//
+// A positive finite number is n smallest values, 2^-1074, and n = top * 4^h / 2^62, where top has 63
+// or 64 digits and fills one word. Then document 01's X is top * 2^42, its F is h - 589, and R is the
+// whole number nearest to the root of X. The pattern of R * 2^F is (h + 485) * 2^52 + R.
 use crate::bits::bits_of;
 use crate::bits::of_bits;
+use crate::guess::guess;
 use crate::words::Two;
 use crate::words::gap;
 use crate::words::plus;
 use crate::words::square;
 ghost use mathlib.Core.Path.{_≡_};
+ghost use mathlib.Core.Bool.{true};
 ghost use Prim.Native.Nat.{_+_, _*_, _^_, _≤_, _<_};
 ghost use lib.Dec.{T};
 ghost use lib.Ieee.{binary64, ofBits, nanBits};
@@ -13,50 +19,87 @@ ghost use Rattle.scalar.specs.Root.{rootOf, rootBits};
 ghost use Rattle.scalar.specs.Rooted.{Near};
 ghost use Rattle.scalar.specs.Inner.{Placed};
 
-// A number of smallest values as top * 4 ^ h / 2 ^ 62, where top has 63 or 64 digits.
+// 2^52: the leading digit of a normal number, and one step of the exponent's field.
+const LEADING: u64 = 0x10_0000_0000_0000;
+
+const HALF: u64 = 0x3fe0_0000_0000_0000;
+
+const ONE: u64 = 0x3ff0_0000_0000_0000;
+
+const INFINITY: u64 = 0x7ff0_0000_0000_0000;
+
+const MINUS_ZERO: u64 = 0x8000_0000_0000_0000;
+
+// A number as top * 4^h / 2^62 smallest values, and the pattern of a normal number with the same digits and
+// an exponent of the same parity, which the guess goes by.
 struct Place {
     top: u64,
     h: u64,
+    like: u64,
 }
 
 // A number below the smallest normal one.
 fn lifted(w: u64) -> Place
     requires { ⌜ (0 < w) × (w < 2 ^ 52) ⌝ }
-    ensures { λ r. ⌜ Placed w (r .top) (r .h) ⌝ }
+    ensures { λ r. ⌜ Placed w (r .top) (r .h) × (r .like < 0x7ff0_0000_0000_0000) ⌝ }
 {
     let mut top = w * 1024;
     let mut h = 26u64;
-    while top < 4611686018427387904 {
+    while top < 0x4000_0000_0000_0000 {
         top = top * 4;
         h = h - 1;
     }
-    Place { top: top, h: h }
+    if top < 0x8000_0000_0000_0000 {
+        return Place {
+            top: top,
+            h: h,
+            like: top / 1024 + HALF,
+        };
+    }
+    Place {
+        top: top,
+        h: h,
+        like: top / 2048 + ONE,
+    }
 }
 
 // The number of the positive finite pattern w.
 fn scaled(w: u64) -> Place
-    requires { ⌜ (0 < w) × (w < 9218868437227405312) ⌝ }
-    ensures { λ r. ⌜ Placed w (r .top) (r .h) ⌝ }
+    requires { ⌜ (0 < w) × (w < 0x7ff0_0000_0000_0000) ⌝ }
+    ensures { λ r. ⌜ Placed w (r .top) (r .h) × (r .like < 0x7ff0_0000_0000_0000) ⌝ }
 {
-    let f = w / 4503599627370496;
+    let f = w / LEADING;
     if f == 0 {
         return lifted(w);
     }
     let k = f - 1;
-    let q = w % 4503599627370496 + 4503599627370496;
-    if k % 2 == 0 {
-        return Place {
-            top: q * 1024,
-            h: k / 2 + 26,
-        };
-    }
+    let q = w % LEADING + LEADING;
     Place {
-        top: q * 2048,
+        top: q * (k % 2 * 1024 + 1024),
         h: k / 2 + 26,
+        like: w,
     }
 }
 
-// The whole number nearest to the root of top * 2 ^ 42, digit by digit.
+// Whether r is seen to be the whole number nearest to the root of X: where 0 < X + r - r * r <= 2 * r.
+fn nearest(top: u64, r: u64) -> bool
+    requires { ⌜ r < 2 ^ 53 ⌝ }
+    ensures { λ b. ⌜ (b ≡ true → Near (top * 2 ^ 42) r) ⌝ }
+{
+    let x = Two {
+        hi: top / 0x40_0000,
+        lo: top % 0x40_0000 * 0x400_0000_0000,
+    };
+    let left = gap(plus(x, r), square(r));
+    if 0 < left {
+        if left <= r * 2 {
+            return true;
+        }
+    }
+    false
+}
+
+// The whole number nearest to the root of X, digit by digit.
 fn digits(top: u64) -> u64
     requires { ⌜ 0 < top ⌝ }
     ensures { λ r. ⌜ Near (top * 2 ^ 42) r ⌝ }
@@ -66,8 +109,8 @@ fn digits(top: u64) -> u64
     let mut root = 0u64;
     let mut k = 0u64;
     while k < 53 {
-        let next = rem * 4 + left / 4611686018427387904;
-        left = left % 4611686018427387904 * 4;
+        let next = rem * 4 + left / 0x4000_0000_0000_0000;
+        left = left % 0x4000_0000_0000_0000 * 4;
         let trial = root * 4 + 1;
         root = root * 2;
         rem = next;
@@ -83,70 +126,53 @@ fn digits(top: u64) -> u64
     root
 }
 
-// A number of 53 digits, near the root of top * 2 ^ 42. How near is not said, and nothing rests on it.
-fn guess(top: u64) -> u64
-    ensures { λ r. ⌜ (2 ^ 52 ≤ r) × (r < 2 ^ 53) ⌝ }
+// The same where r was tried and is not it: a neighbour of r, and else by digits.
+fn beside(top: u64, r: u64) -> u64
+    requires { ⌜ (0 < top) × ((0 < r) × (r < 2 ^ 53)) ⌝ }
+    ensures { λ x. ⌜ Near (top * 2 ^ 42) x ⌝ }
 {
-    let mut b = top / 1024 + 4602678819172646912;
-    if 9223372036854775808 <= top {
-        b = top / 2048 + 4607182418800017408;
+    if nearest(top, r - 1) {
+        return r - 1;
     }
-    let z = f64::from_bits(b);
-    let mut y = 0.5185546283489475 + z * (0.5260096907302437 - z * 0.03954011274601693);
-    y = 0.5 * (y + z / y);
-    y = 0.5 * (y + z / y);
-    y = 0.5 * (y + z / y);
-    if y < 2.0 {
-        return f64::to_bits(y) % 4503599627370496 + 4503599627370496;
-    }
-    9007199254740991
-}
-
-// The whole number nearest to the root of top * 2 ^ 42: the guess, or one of its neighbours, if it
-// passes the test, and else by digits.
-fn whole(top: u64) -> u64
-    requires { ⌜ 0 < top ⌝ }
-    ensures { λ r. ⌜ Near (top * 2 ^ 42) r ⌝ }
-{
-    let r = guess(top);
-    let t = Two {
-        hi: top / 4194304,
-        lo: top % 4194304 * 4398046511104,
-    };
-    let x = plus(t, r);
-    let q = square(r);
-    let up = gap(x, q);
-    let d = r * 2;
-    if 0 < up {
-        if up <= d {
-            return r;
-        }
-        if up <= d + d + 2 {
+    if r < 0x1f_ffff_ffff_ffff {
+        if nearest(top, r + 1) {
             return r + 1;
         }
-    }
-    let down = gap(q, x);
-    if down < d - 2 {
-        return r - 1;
     }
     digits(top)
 }
 
-// The pattern of the root of the positive finite pattern w.
-fn root_bits(w: u64) -> u64
-    requires { ⌜ (0 < w) × (w < 9218868437227405312) ⌝ }
-    ensures { λ r. ⌜ (ofBits binary64 r ≡ rootOf (ofBits binary64 w)) × (r < 9218868437227405312) ⌝ }
+// The root of the number of the positive finite pattern w. Near 1 it follows from the pattern. Else the
+// guess is the answer if its last 53 digits, the leading one with them, are those of R.
+fn positive(w: u64) -> f64
+    requires { ⌜ (0 < w) × (w < 0x7ff0_0000_0000_0000) ⌝ }
+    ensures { λ r. ⌜ r ≡ rootOf (ofBits binary64 w) ⌝ }
 {
-    if 4607182418732908544 <= w {
-        if w <= 4607182418867126272 {
-            return (w + 4607182418800017408) / 2;
+    if ONE - 0x400_0000 <= w {
+        if w <= ONE + 0x400_0000 {
+            return f64::from_bits((w + ONE) / 2);
         }
     }
     let p = scaled(w);
-    let r = whole(p.top);
-    (p.h + 485) * 4503599627370496 + r
+    let top = p.top;
+    let b = (p.h + 485) * LEADING;
+    let x = guess(p.like, b);
+    if x < 1.0e200 {
+        let t = f64::to_bits(x);
+        if b < t {
+            let r = t - b;
+            if r < 0x20_0000_0000_0000 {
+                if nearest(top, r) {
+                    return x;
+                }
+                return f64::from_bits(b + beside(top, r));
+            }
+        }
+    }
+    f64::from_bits(b + digits(top))
 }
 
+// The zeros and +infinity are their own roots; NaN and numbers below 0 have the root NaN.
 pub fn sqrt(x: f64) -> f64
     ensures { λ r. ⌜ r ≡ rootOf x ⌝ }
 {
@@ -157,19 +183,19 @@ pub fn sqrt(x: f64) -> f64
     if w == 0 {
         return x;
     }
-    if w < 9218868437227405312 {
-        return f64::from_bits(root_bits(w));
+    if w < INFINITY {
+        return positive(w);
     }
-    if w == 9218868437227405312 {
+    if w == INFINITY {
         return x;
     }
-    if w == 9223372036854775808 {
+    if w == MINUS_ZERO {
         return x;
     }
     0.0 / 0.0
 }
 
-// The same on patterns.
+// The same from pattern to pattern.
 pub fn sqrt_bits(w: u64) -> u64
     ensures { λ r. ⌜ (r ≡ rootBits w) × (T (nanBits binary64 w) → r ≡ 0x7ff8_0000_0000_0000) ⌝ }
 {

@@ -9,7 +9,7 @@ use lib.Dec.{T, leb, leb→le, nleb→lt}
 use lib.Ieee.{binary64, ofBits}
 use Rattle.scalar.specs.Root.{rootOf}
 use Rattle.scalar.specs.Rooted.{Near}
-use Rattle.scalar.proofs.root.Units.{root-bits}
+use Rattle.scalar.proofs.root.Units.{answer}
 use Rattle.scalar.proofs.root.Steps.{placed-even, placed-odd}
 
 -- the pattern of 1
@@ -73,8 +73,7 @@ bits-up w a b =
     let t : (w % 2 ^ 52 + 2 ^ 52) * 1024 * 2 ^ 42 ≡ (2 ^ 52 + k) * 2 ^ 52 = omega arith in
     let e : (537 + 485) * 2 ^ 52 + (2 ^ 52 + k / 2) ≡ (w + one) / 2 = omega arith in
     ap (ofBits binary64) (sym e)
-    ∙ root-bits w ((w % 2 ^ 52 + 2 ^ 52) * 1024) 537 (2 ^ 52 + k / 2) (omega arith) (omega arith) (p .is) (p .large) (omega arith) (p .few)
-    (subst (λ (x : ℕ). Near x (2 ^ 52 + k / 2)) (sym t) (up k (omega arith))) (omega arith) (omega arith)
+    ∙ answer w ((w % 2 ^ 52 + 2 ^ 52) * 1024) 537 (2 ^ 52 + k / 2) (omega arith) (omega arith) p (subst (λ (x : ℕ). Near x (2 ^ 52 + k / 2)) (sym t) (up k (omega arith))) .is
 
 bits-down : (w : ℕ) → w < one → one - 2 ^ 26 ≤ w → ofBits binary64 ((w + one) / 2) ≡ rootOf (ofBits binary64 w)
 bits-down w a b =
@@ -85,8 +84,7 @@ bits-down w a b =
     let t : u * 2048 * 2 ^ 42 ≡ u * 2 ^ 53 = omega arith in
     let e : (536 + 485) * 2 ^ 52 + (u + j / 2) ≡ (w + one) / 2 = omega arith in
     ap (ofBits binary64) (sym e)
-    ∙ root-bits w (u * 2048) 536 (u + j / 2) (omega arith) (omega arith) (p .is) (p .large) (omega arith) (p .few)
-    (subst (λ (x : ℕ). Near x (u + j / 2)) (sym t) (down u j f (omega arith))) (omega arith) (omega arith)
+    ∙ answer w (u * 2048) 536 (u + j / 2) (omega arith) (omega arith) p (subst (λ (x : ℕ). Near x (u + j / 2)) (sym t) (down u j f (omega arith))) .is
 
 pub bits-near : (w : ℕ) → one - 2 ^ 26 ≤ w → w ≤ one + 2 ^ 26 → ofBits binary64 ((w + one) / 2) ≡ rootOf (ofBits binary64 w)
 bits-near w a b = go (leb one w) (leb→le one w) (nleb→lt one w)

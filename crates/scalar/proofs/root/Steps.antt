@@ -1,8 +1,8 @@
 -- The invariants of the two loops, and what a turn of each does. Assumes nothing.
 use Prim.Native.Nat.{ℕ, zero, suc, _+_, _-_, _*_, _/_, _%_, _^_, _≤_, _<_}
-use mathlib.Core.Path.{_≡_, sym, ap, _∙_, subst}
+use mathlib.Core.Path.{_≡_, refl, sym, ap, _∙_, subst}
 use mathlib.Core.Logic.{_≢_}
-use native.Mathlib.Nat.{lt-of-lt-of-le}
+use native.Mathlib.Nat.{lt-of-lt-of-le, mul-le-mul}
 use native.Mathlib.Omega.{arith}
 use lib.Pow.{pow-add, pow-mono}
 use Rattle.scalar.specs.Rooted.{Near}
@@ -117,3 +117,27 @@ placed-odd w k u v e z =
     let b : q * 2 ^ k * 2 ^ 62 ≡ q * 1024 * (2 ^ k * 2 ^ 52) = omega arith in
     let c : q * 1024 * (2 ^ (2 * (k / 2 + 26)) * 2) ≡ q * 2048 * 2 ^ (2 * (k / 2 + 26)) = omega arith in
     record { is = rw (unitsOf-normal w v, ← e) (b ∙ ap (λ (x : ℕ). q * 1024 * x) (sym p) ∙ c); large = omega arith; room = omega arith; few = omega arith }
+
+-- either way, with no branch
+pub placed-both : (w k : ℕ) → w < 9218868437227405312 → 2 ^ 52 ≤ w → k ≡ w / 2 ^ 52 - 1 → Placed w ((w % 2 ^ 52 + 2 ^ 52) * (k % 2 * 1024 + 1024)) (k / 2 + 26)
+placed-both w k u v e = go (k % 2) refl
+  where
+    go : (b : ℕ) → k % 2 ≡ b → Placed w ((w % 2 ^ 52 + 2 ^ 52) * (k % 2 * 1024 + 1024)) (k / 2 + 26)
+    go zero z =
+        let t : 1024 ≡ k % 2 * 1024 + 1024 = omega arith in
+        subst (λ (x : ℕ). Placed w ((w % 2 ^ 52 + 2 ^ 52) * x) (k / 2 + 26)) t (placed-even w k u v e z)
+    go (suc b) z =
+        let t : 2048 ≡ k % 2 * 1024 + 1024 = omega arith in
+        let n : k % 2 ≡ 0 → ⊥ = λ y. omega arith in
+        subst (λ (x : ℕ). Placed w ((w % 2 ^ 52 + 2 ^ 52) * x) (k / 2 + 26)) t (placed-odd w k u v e n)
+
+pub room-both : (q k : ℕ) → q < 2 ^ 53 → q * (k % 2 * 1024 + 1024) < 2 ^ 64
+room-both q k h =
+    let a : q ≤ 2 ^ 53 - 1 = omega arith in
+    let t : k % 2 * 1024 + 1024 ≤ 2048 = omega arith in
+    let p : q * (k % 2 * 1024 + 1024) ≤ (2 ^ 53 - 1) * 2048 = mul-le-mul a t in
+    omega arith
+
+-- ---- where a candidate is taken: X + r = r * r + left
+pub take-it : (X r left : ℕ) → X + r ≡ r * r + left → 0 < left → left ≤ r * 2 → Near X r
+take-it X r left e p h = record { below = omega arith; above = omega arith }

@@ -16,8 +16,8 @@ use lib.Ieee.Exact.{HasValue, odd-sign}
 use borrow.Author.Tests.{lt-leb, le-leb, ne-eqb, lt-ltb, le-ltb}
 use Rattle.scalar.specs.Root.{scaleOf, scaled, unitsRoot, rootOf, wholeRoot}
 use Rattle.scalar.specs.Rooted.{Near}
-use Rattle.scalar.specs.Inner.{unitsOf}
-use Rattle.scalar.proofs.root.Nearest.{wholeRoot-is}
+use Rattle.scalar.specs.Inner.{unitsOf, Placed}
+use Rattle.scalar.proofs.root.Whole.{wholeRoot-is, near-low, near-high}
 
 -- ---- the scaled number: n * 2 ^ 62 = top * 4 ^ h with a top of 63 or 64 digits
 
@@ -163,10 +163,24 @@ rootOf-pattern w p h = go (ltb w (2 ^ 52)) (ltb→lt w (2 ^ 52)) (nltb→le w (2
         ∙ rootOf-val (odd 53 false q j 1074) (q * 2 ^ j) (odd-sign 53 false q j 1074) (mul-pos {m = q} (omega arith) (pow-pos j))
         ∙ ap unitsRoot (sym (unitsOf-normal w l))
 
--- what the code hands back
-pub root-bits : (w top h R : ℕ) → 0 < w → w < 9218868437227405312 → unitsOf w * 2 ^ 62 ≡ top * 2 ^ (2 * h) → 2 ^ 62 ≤ top → top < 2 ^ 64 → h < 1100 → Near (top * 2 ^ 42) R
-    → 2 ^ 52 ≤ R → R < 2 ^ 53 → ofBits binary64 ((h + 485) * 2 ^ 52 + R) ≡ rootOf (ofBits binary64 w)
-root-bits w top h R p q e a b s n c d =
-    of-bits-normal R (h + 485) c d (omega arith)
-    ∙ odd-both 53 false R h 589 485
-    ∙ sym (rootOf-pattern w p q ∙ unitsRoot-is (unitsOf w) top h R e a b n)
+-- ---- what the code hands back: R is a number of 53 digits, and this is the pattern of R * 2 ^ F
+
+pub record Answer (w h R : ℕ) : Type 0 where
+  pub is : ofBits binary64 ((h + 485) * 2 ^ 52 + R) ≡ rootOf (ofBits binary64 w)
+  pub low : 2 ^ 52 ≤ R
+  pub high : R < 2 ^ 53
+
+pub answer : (w top h R : ℕ) → 0 < w → w < 9218868437227405312 → Placed w top h → Near (top * 2 ^ 42) R → Answer w h R
+answer w top h R p q s n =
+    let large : 2 ^ 62 ≤ top = s .large in
+    let room : top + 2048 ≤ 2 ^ 64 = s .room in
+    let few : h < 1100 = s .few in
+    let low : 2 ^ 52 ≤ R = near-low _ _ n (omega arith) in
+    let high : R < 2 ^ 53 = near-high _ _ n (omega arith) in
+    record {
+      is = of-bits-normal R (h + 485) low high (omega arith)
+          ∙ odd-both 53 false R h 589 485
+          ∙ sym (rootOf-pattern w p q ∙ unitsRoot-is (unitsOf w) top h R (s .is) large (omega arith) n);
+      low = low;
+      high = high;
+    }

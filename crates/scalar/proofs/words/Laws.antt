@@ -1,30 +1,14 @@
 -- A number in two words, and the three places where a candidate for the root is taken. Assumes nothing.
-use Prim.Native.Nat.{ℕ, zero, suc, _+_, _-_, _*_, _/_, _%_, _^_, _≤_, _<_}
+use Prim.Native.Nat.{ℕ, _+_, _-_, _*_, _/_, _%_, _^_, _≤_, _<_}
 use mathlib.Core.Path.{_≡_}
 use native.Mathlib.Nat.{mul-le-mul}
 use native.Mathlib.Omega.{arith}
-use Rattle.scalar.specs.Rooted.{Near}
 use Rattle.scalar.specs.Inner.{valueOf}
 
 -- (a * 2 ^ 27 + c) ^ 2, in parts that stay within a word
 pub squared : (a c : ℕ)
     → valueOf (a * a / 1024 + a * c / 68719476736) (a * c % 68719476736 * 268435456) + c * c + a * a % 1024 * 18014398509481984 ≡ (a * 134217728 + c) * (a * 134217728 + c)
 squared a c = omega arith
-
--- X + r = r * r + up
-pub take-it : (X r up : ℕ) → X + r ≡ r * r + up → 0 < up → up ≤ r * 2 → Near X r
-take-it X r up e p h = record { below = omega arith; above = omega arith }
-
-pub take-next : (X r up : ℕ) → X + r ≡ r * r + up → r * 2 < up → up ≤ r * 2 + r * 2 + 2 → Near X (r + 1)
-take-next X r up e p h = record { below = omega arith; above = omega arith }
-
--- r * r = X + r + down
-pub take-last : (X r down : ℕ) → r * r ≡ X + r + down → down < r * 2 - 2 → Near X (r - 1)
-take-last X zero down e h = absurd (no h)
-  where
-    no : down < 0 * 2 - 2 → ⊥
-    no l = omega arith
-take-last X (suc r) down e h = let b : suc r - 1 ≡ r = omega arith in record { below = rw b (omega arith); above = rw b (omega arith) }
 
 pub scaled-words : (top : ℕ) → valueOf (top / 4194304) (top % 4194304 * 4398046511104) ≡ top * 2 ^ 42
 scaled-words top = omega arith

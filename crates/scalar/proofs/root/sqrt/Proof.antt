@@ -4,7 +4,7 @@ use lib.Ieee.{binary64}
 use Rattle.loops.specs.Tests.{truth}
 use lib.Ieee.Bits.{toBits-lt}
 use Rattle.scalar.specs.Root.{rootOf}
-use Rattle.scalar.proofs.bits.Patterns.{quiet, no-nan, no-pattern, back}
+use Rattle.scalar.proofs.bits.Patterns.{quiet, no-nan, back}
 use Rattle.scalar.proofs.root.Special.{nan-root, own-root, root-zero, root-infinity, root-minus-zero, root-else}
 use borrow.Author.Needs.{needs}
 use Rattle.scalar.proofs.root.sqrt.Statement.{statement}
@@ -19,14 +19,8 @@ float-to-bits-w c = no-nan _ (c .if1 .left)
 returns-2 : tie.Need-returns-2
 returns-2 c = own-root _ 0 (truth (c .before .before .good .0 .1)) (c .if2 .taken) root-zero
 
-root-bits-requires : tie.Need-root-bits-requires
-root-bits-requires c κs = search needs
-
-float-from-bits-result : tie.Need-float-from-bits-result
-float-from-bits-result c = no-pattern _ (omega (arith, c .root-bits .ensures .1))
-
 returns-3 : tie.Need-returns-3
-returns-3 c = c .root-bits .ensures .0 ∙ ap rootOf (sym (back _ _ (truth (c .before .before .before .before .good .0 .1)) refl))
+returns-3 c = c .positive .ensures ∙ ap rootOf (sym (back _ _ (truth (c .before .before .before .before .good .0 .1)) refl))
 
 returns-4 : tie.Need-returns-4
 returns-4 c = own-root _ _ (truth (c .before .before .before .before .good .0 .1)) (c .if4 .taken) root-infinity
@@ -46,8 +40,7 @@ sqrt-spec =
     returns
     float-to-bits-w
     returns-2
-    root-bits-requires
-    float-from-bits-result
+    (λ c κs. search needs)
     returns-3
     returns-4
     returns-5

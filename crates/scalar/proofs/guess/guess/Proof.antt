@@ -1,0 +1,24 @@
+-- `scalar::guess::guess` is safe: the two patterns that it makes are no NaN's. Nothing is said of what it answers. Assumes nothing.
+use native.Mathlib.Omega.{arith}
+use borrow.Author.Needs.{needs}
+use Rattle.scalar.proofs.bits.Patterns.{no-pattern}
+use Rattle.scalar.proofs.guess.guess.Statement.{statement}
+use Rattle.scalar.proofs.guess.guess.Tie as tie
+
+float-from-bits-z : tie.Need-float-from-bits-z
+float-from-bits-z c = no-pattern _ (omega arith)
+
+float-from-bits-k : tie.Need-float-from-bits-k
+float-from-bits-k c = no-pattern _ (omega arith)
+
+pub guess-spec : {M : Type 1} → statement M
+guess-spec =
+    tie.close
+    (tie.spec
+    (λ c κs. search needs)
+    (λ c. search needs)
+    (λ c. search needs)
+    float-from-bits-z
+    (λ c. search needs)
+    float-from-bits-k
+    (λ c. search needs))

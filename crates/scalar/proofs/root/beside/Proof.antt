@@ -1,0 +1,25 @@
+-- `scalar::root::beside` meets its contract: a neighbour is taken only where `nearest` says so. Assumes nothing.
+use borrow.Author.Needs.{needs}
+use Rattle.scalar.proofs.root.beside.Statement.{statement}
+use Rattle.scalar.proofs.root.beside.Tie as tie
+
+returns : tie.Need-returns
+returns c = c .before .nearest .ensures (c .if1 .taken)
+
+returns-2 : tie.Need-returns-2
+returns-2 c = c .before .nearest2 .ensures (c .if3 .taken)
+
+pub beside-spec : {M : Type 1} → statement M
+beside-spec =
+    tie.close
+    (tie.spec
+    (λ c. search needs)
+    (λ c κs. search needs)
+    (λ c. search needs)
+    returns
+    (λ c. search needs)
+    (λ c κs. search needs)
+    (λ c. search needs)
+    returns-2
+    (λ c κs. search needs)
+    (λ c. search needs))

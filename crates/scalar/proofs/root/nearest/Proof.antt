@@ -1,0 +1,41 @@
+-- `scalar::root::nearest` meets its contract: where the difference X + r - r * r is one word, it is exact, and its bounds are the two
+-- inequalities. Assumes nothing.
+use Prim.Native.Nat.{_+_, _*_, _^_, _<_}
+use mathlib.Core.Path.{_≡_}
+use mathlib.Core.Bool.{false≢true}
+use native.Mathlib.Omega.{arith}
+use borrow.Author.Needs.{needs}
+use Rattle.scalar.proofs.words.Laws.{scaled-words}
+use Rattle.scalar.proofs.root.Steps.{take-it}
+use Rattle.scalar.proofs.root.nearest.Statement.{statement}
+use Rattle.scalar.proofs.root.nearest.Tie as tie
+
+gap-requires : tie.Need-gap-requires
+gap-requires c κs = omega (arith, c .square .ensures .1)
+
+-- X + r is r * r and what `gap` answers
+rest : (c : tie.After-gap) → (c .gap .result < 18446744073709551615)
+    → c .before .before .before .args .top * 2 ^ 42 + c .before .before .before .args .r ≡ c .before .before .before .args .r * c .before .before .before .args .r + c .gap .result
+rest c h = omega (arith, c .gap .ensures h, c .before .before .plus .ensures .0, c .before .square .ensures .0, scaled-words (c .before .before .before .args .top))
+
+returns : tie.Need-returns
+returns c = λ e. take-it _ _ _ (rest (c .before .before) (omega (arith, c .if2 .taken, c .before .before .before .before .before .pre))) (c .before .if1 .taken) (c .if2 .taken)
+
+returns-2 : tie.Need-returns-2
+returns-2 c = λ e. absurd (false≢true e)
+
+returns-3 : tie.Need-returns-3
+returns-3 c = λ e. absurd (false≢true e)
+
+pub nearest-spec : {M : Type 1} → statement M
+nearest-spec =
+    tie.close
+    (tie.spec
+    (λ c. search needs)
+    (λ c κs. search needs)
+    (λ c κs. search needs)
+    gap-requires
+    (λ c. search needs)
+    returns
+    returns-2
+    returns-3)

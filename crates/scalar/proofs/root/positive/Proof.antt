@@ -1,0 +1,80 @@
+-- `scalar::root::positive` meets its contract. Near 1 by the pattern alone; else each way out has an R that is nearest to the root of X,
+-- and R's pattern is the answer's (`answer`). Assumes nothing.
+use mathlib.Core.Path.{_∙_}
+use native.Mathlib.Omega.{arith}
+use borrow.Author.Needs.{needs}
+use Rattle.loops.specs.Tests.{truth}
+use Rattle.scalar.proofs.bits.Patterns.{no-pattern, below-no-nan, back}
+use Rattle.scalar.proofs.root.Units.{Answer, answer}
+use Rattle.scalar.proofs.root.NearOne.{bits-near}
+use Rattle.scalar.proofs.root.positive.Statement.{statement}
+use Rattle.scalar.proofs.root.positive.Tie as tie
+
+returns : tie.Need-returns
+returns c = bits-near _ (omega arith) (omega arith)
+
+float-to-bits-t : tie.Need-float-to-bits-t
+float-to-bits-t c = below-no-nan _ _ (c .if3 .taken)
+
+-- the guess itself: its pattern is b + r
+returns-2 : tie.Need-returns-2
+returns-2 c =
+    let start = c .before .before .before .before .before .before .before .before .before in
+    let p = c .before .before .before .before .before .before .before .scaled .ensures .0 in
+    let g = c .before .before .before .before .before .guess in
+    back (g .result) _ (truth (g .ok)) (omega arith)
+    ∙ answer _ _ _ _ (start .pre .0) (start .pre .1) p (c .before .nearest .ensures (c .if6 .taken)) .is
+
+-- what `beside` found
+found : (c : tie.After-beside)
+    → Answer (c .before .before .before .before .before .before .before .before .before .before .args .w)
+    (c .before .before .before .before .before .before .before .before .scaled .result .h)
+    (c .beside .result)
+found c =
+    let start = c .before .before .before .before .before .before .before .before .before .before in
+    answer _ _ _ _ (start .pre .0) (start .pre .1) (c .before .before .before .before .before .before .before .before .scaled .ensures .0) (c .beside .ensures)
+
+add-result-2 : tie.Need-add-result-2
+add-result-2 c = omega (arith, found c .high, c .before .before .before .before .before .before .before .before .scaled .ensures .0 .few)
+
+float-from-bits-result-2 : tie.Need-float-from-bits-result-2
+float-from-bits-result-2 c = no-pattern _ (omega (arith, found c .high, c .before .before .before .before .before .before .before .before .scaled .ensures .0 .few))
+
+-- what `digits` found
+made : (c : tie.After-digits)
+    → Answer (c .before .before .before .before .before .before .args .w) (c .before .before .before .before .scaled .result .h) (c .digits .result)
+made c =
+    let start = c .before .before .before .before .before .before in
+    answer _ _ _ _ (start .pre .0) (start .pre .1) (c .before .before .before .before .scaled .ensures .0) (c .digits .ensures)
+
+add-result-3 : tie.Need-add-result-3
+add-result-3 c = omega (arith, made c .high, c .before .before .before .before .scaled .ensures .0 .few)
+
+float-from-bits-result-3 : tie.Need-float-from-bits-result-3
+float-from-bits-result-3 c = no-pattern _ (omega (arith, made c .high, c .before .before .before .before .scaled .ensures .0 .few))
+
+pub positive-spec : {M : Type 1} → statement M
+positive-spec =
+    tie.close
+    (tie.spec
+    (λ c. search needs)
+    (λ c. search needs)
+    (λ c. search needs)
+    (λ c. no-pattern _ (omega arith))
+    returns
+    (λ c κs. search needs)
+    (λ c. search needs)
+    (λ c. search needs)
+    (λ c κs. search needs)
+    float-to-bits-t
+    (λ c. search needs)
+    (λ c κs. search needs)
+    returns-2
+    (λ c κs. search needs)
+    add-result-2
+    float-from-bits-result-2
+    (λ c. found c .is)
+    (λ c κs. search needs)
+    add-result-3
+    float-from-bits-result-3
+    (λ c. made c .is))
