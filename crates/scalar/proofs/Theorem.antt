@@ -192,7 +192,7 @@ root-is m e t =
 
 -- so the root of any value of the format is one
 pub rootOf-fits : (x : Float) → T (fits binary64 x) → T (fits binary64 (rootOf x))
-unfolding rootOf
+unfolding rootOf fits
 rootOf-fits nan t = nan-fits binary64
 rootOf-fits (inf true) t = nan-fits binary64
 rootOf-fits (inf false) t = inf-fits binary64 false

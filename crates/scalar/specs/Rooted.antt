@@ -1,6 +1,7 @@
 -- What the root of a positive finite number is, in the words of document 01, over whole numbers alone.
--- Proved of the definition in `proofs/Theorem.antt` (`root-is`: the root of every such x is one; `no-tie`) and in `proofs/Unique.antt`
--- (`root-one`: nothing else is).
+-- Proved of the definition: the root of every such x is one (`root-is` of `proofs/Theorem.antt`), and nothing else is (`root-one` of
+-- `proofs/Unique.antt`); a root of any value of the format is one too (`rootOf-fits` of `Theorem`), and halves never tie (`no-tie` of
+-- `proofs/root/Whole.antt`).
 use Prim.Native.Nat.{ℕ, _+_, _-_, _*_, _^_, _≤_, _<_}
 use lib.Dec.{T}
 use mathlib.Core.Bool.{false}

@@ -8,6 +8,7 @@ mod sign;
 mod words;
 
 pub use bits::bits_of;
+pub use bits::not_a_number;
 pub use bits::of_bits;
 pub use class::is_finite;
 pub use class::is_zero;

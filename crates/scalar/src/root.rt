@@ -4,6 +4,7 @@
 // or 64 digits and fills one word. Then document 01's X is top * 2^42, its F is h - 589, and R is the
 // whole number nearest to the root of X. The pattern of R * 2^F is (h + 485) * 2^52 + R.
 use crate::bits::bits_of;
+use crate::bits::not_a_number;
 use crate::bits::of_bits;
 use crate::guess::guess;
 use crate::words::Two;
@@ -22,6 +23,7 @@ ghost use Rattle.scalar.specs.Inner.{Placed};
 // 2^52: the leading digit of a normal number, and one step of the exponent's field.
 const LEADING: u64 = 0x10_0000_0000_0000;
 
+// The patterns of 0.5, 1.0, +infinity and -0.0.
 const HALF: u64 = 0x3fe0_0000_0000_0000;
 
 const ONE: u64 = 0x3ff0_0000_0000_0000;
@@ -177,7 +179,7 @@ pub fn sqrt(x: f64) -> f64
     ensures { λ r. ⌜ r ≡ rootOf x ⌝ }
 {
     if x != x {
-        return 0.0 / 0.0;
+        return not_a_number();
     }
     let w = f64::to_bits(x);
     if w == 0 {
@@ -192,7 +194,7 @@ pub fn sqrt(x: f64) -> f64
     if w == MINUS_ZERO {
         return x;
     }
-    0.0 / 0.0
+    not_a_number()
 }
 
 // The same from pattern to pattern.

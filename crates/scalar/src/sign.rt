@@ -28,7 +28,7 @@ pub fn signum(x: f64) -> f64
     if x != x {
         return x;
     }
-    if f64::to_bits(x) < 9223372036854775808 {
+    if f64::to_bits(x) < 0x8000_0000_0000_0000 {
         return 1.0;
     }
     -1.0

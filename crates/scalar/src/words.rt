@@ -4,12 +4,13 @@ ghost use mathlib.Core.Path.{_≡_};
 ghost use Prim.Native.Nat.{_+_, _*_, _^_, _≤_, _<_};
 ghost use Rattle.scalar.specs.Inner.{valueOf};
 
-// A number in two words, hi * 2 ^ 64 + lo.
+// The number hi * 2^64 + lo.
 pub struct Two {
     pub hi: u64,
     pub lo: u64,
 }
 
+// a + b: where the lower word ran round, it is below what was added.
 pub(crate) fn plus(a: Two, b: u64) -> Two
     requires { ⌜ a .hi < 2 ^ 63 ⌝ }
     ensures { λ r. ⌜ (valueOf (r .hi) (r .lo) ≡ valueOf (a .hi) (a .lo) + b) × (r .hi ≤ a .hi + 1) ⌝ }
@@ -24,27 +25,29 @@ pub(crate) fn plus(a: Two, b: u64) -> Two
     Two { hi: a.hi, lo: lo }
 }
 
-// r * r, from halves of 26 and 27 digits.
+// r * r. With r = a * 2^27 + c it is a * a * 2^54 + a * c * 2^28 + c * c, and each of the three products
+// is within a word.
 pub(crate) fn square(r: u64) -> Two
     requires { ⌜ r < 2 ^ 53 ⌝ }
     ensures { λ x. ⌜ (valueOf (x .hi) (x .lo) ≡ r * r) × (x .hi < 2 ^ 62) ⌝ }
 {
-    let a = r / 134217728;
-    let c = r % 134217728;
+    let a = r / 0x800_0000;
+    let c = r % 0x800_0000;
     let s = a * a;
     let m = a * c;
     let t = Two {
-        hi: s / 1024 + m / 68719476736,
-        lo: m % 68719476736 * 268435456,
+        hi: s / 0x400 + m / 0x10_0000_0000,
+        lo: m % 0x10_0000_0000 * 0x1000_0000,
     };
     let u = plus(t, c * c);
-    plus(u, s % 1024 * 18014398509481984)
+    plus(u, s % 0x400 * 0x40_0000_0000_0000)
 }
 
-// a - b, where that is a number of one word; else, or so it may be, the largest one.
+// a - b, if that is a number of one word and not its largest; else the largest. Where the lower word of
+// a is below that of b, the difference runs round and borrows from the upper words.
 pub(crate) fn gap(a: Two, b: Two) -> u64
     requires { ⌜ b .hi < 2 ^ 63 ⌝ }
-    ensures { λ r. ⌜ (r < 18446744073709551615 → valueOf (a .hi) (a .lo) ≡ valueOf (b .hi) (b .lo) + r) ⌝ }
+    ensures { λ r. ⌜ (r < 0xffff_ffff_ffff_ffff → valueOf (a .hi) (a .lo) ≡ valueOf (b .hi) (b .lo) + r) ⌝ }
 {
     let lo = std::num::wrapping_sub_u64(a.lo, b.lo);
     let mut hi = b.hi;
@@ -54,5 +57,5 @@ pub(crate) fn gap(a: Two, b: Two) -> u64
     if a.hi == hi {
         return lo;
     }
-    18446744073709551615
+    0xffff_ffff_ffff_ffff
 }

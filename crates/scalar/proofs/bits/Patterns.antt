@@ -1,6 +1,6 @@
 -- When a pattern is a NaN's and when a float is one, by the tests that the code makes; and from a float to its pattern and back.
 -- Assumes nothing.
-use Prim.Native.Nat.{ℕ, _≤_, _<_, _%_}
+use Prim.Native.Nat.{ℕ, _%_, _^_, _≤_, _<_}
 use mathlib.Core.Path.{_≡_, refl, sym, subst, ap, _∙_}
 use mathlib.Core.Bool.{true, false, not, false≢true}
 use lib.Dec.{T}
@@ -21,10 +21,10 @@ is-nan (fin s m k) e = cc
 pub read-nan : (w : ℕ) → T (nanBits binary64 w) → ofBits binary64 w ≡ nan
 read-nan w t = is-nan (ofBits binary64 w) (sym (nanBits-is binary64 w) ∙ is-true _ t)
 
-pub nan-pattern : (w : ℕ) → 9218868437227405312 < w % 9223372036854775808 → ofBits binary64 w ≡ nan
+pub nan-pattern : (w : ℕ) → 0x7ff0_0000_0000_0000 < w % 2 ^ 63 → ofBits binary64 w ≡ nan
 nan-pattern w h = is-nan (ofBits binary64 w) (sym (nanBits-is binary64 w) ∙ nanBits-above binary64 w ∙ lt-ltb _ _ h)
 
-pub no-pattern : (w : ℕ) → w % 9223372036854775808 ≤ 9218868437227405312 → T (not (nanBits binary64 w))
+pub no-pattern : (w : ℕ) → w % 2 ^ 63 ≤ 0x7ff0_0000_0000_0000 → T (not (nanBits binary64 w))
 no-pattern w h = falsity (nanBits-above binary64 w ∙ le-ltb _ _ h)
 
 -- ---- of a float: x != x
@@ -51,7 +51,7 @@ pub quiet : div binary64 (ofBits binary64 0) (ofBits binary64 0) ≡ nan
 unfolding div ofBits
 quiet = refl
 
-pub nan-bits : toBits binary64 nan ≡ 9221120237041090560
+pub nan-bits : toBits binary64 nan ≡ 0x7ff8_0000_0000_0000
 unfolding toBits
 nan-bits = refl
 

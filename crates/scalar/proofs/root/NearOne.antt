@@ -14,7 +14,7 @@ use Rattle.scalar.proofs.root.Steps.{placed-even, placed-odd}
 
 -- the pattern of 1
 abbrev pub one : ℕ
-one = 4607182418800017408
+one = 0x3ff0_0000_0000_0000
 
 -- With P for 2 ^ 52 or 2 ^ 53 the products stay short. Above 1: X = (P + k) * P with an even and with an odd k.
 up-even : (P i : ℕ) → i * i < P → Near ((P + i * 2) * P) (P + i)

@@ -37,11 +37,11 @@ pub root-zero : rootOf (ofBits binary64 0) ≡ ofBits binary64 0
 unfolding rootOf ofBits
 root-zero = refl
 
-pub root-minus-zero : rootOf (ofBits binary64 9223372036854775808) ≡ ofBits binary64 9223372036854775808
+pub root-minus-zero : rootOf (ofBits binary64 (2 ^ 63)) ≡ ofBits binary64 (2 ^ 63)
 unfolding rootOf ofBits
 root-minus-zero = refl
 
-pub root-infinity : rootOf (ofBits binary64 9218868437227405312) ≡ ofBits binary64 9218868437227405312
+pub root-infinity : rootOf (ofBits binary64 0x7ff0_0000_0000_0000) ≡ ofBits binary64 0x7ff0_0000_0000_0000
 unfolding rootOf ofBits
 root-infinity = refl
 
@@ -57,13 +57,13 @@ negative-fields (suc f) t h = go (eqb (suc f) 2047) (eqb t 0)
     go true false = unfold rootOf in refl
     go false b = rootOf-neg (odd 53 true (2 ^ 52 + t) f 1074) ((2 ^ 52 + t) * 2 ^ f) (odd-sign 53 true (2 ^ 52 + t) f 1074) (mul-pos {m = 2 ^ 52 + t} (omega arith) (pow-pos f))
 
-negative : (w : ℕ) → 9223372036854775808 < w → w < 2 ^ 64 → rootOf (ofBits binary64 w) ≡ nan
+negative : (w : ℕ) → 2 ^ 63 < w → w < 2 ^ 64 → rootOf (ofBits binary64 w) ≡ nan
 unfolding ofBits
 negative w a b =
     ap (λ (s : Bool). rootOf (ofFields binary64 s (w % 2 ^ 63 / 2 ^ 52) (w % 2 ^ 52))) (le-leb (2 ^ 63) w (omega arith))
     ∙ negative-fields (w % 2 ^ 63 / 2 ^ 52) (w % 2 ^ 52) (omega arith)
 
-pub root-else : (w : ℕ) → 9218868437227405312 < w → w ≢ 9223372036854775808 → w < 2 ^ 64 → rootOf (ofBits binary64 w) ≡ nan
+pub root-else : (w : ℕ) → 0x7ff0_0000_0000_0000 < w → w ≢ 2 ^ 63 → w < 2 ^ 64 → rootOf (ofBits binary64 w) ≡ nan
 root-else w a b c = go (leb (2 ^ 63) w) (leb→le (2 ^ 63) w) (nleb→lt (2 ^ 63) w)
   where
     go : (t : Bool) → (T t → 2 ^ 63 ≤ w) → (T (not t) → w < 2 ^ 63) → rootOf (ofBits binary64 w) ≡ nan

@@ -102,14 +102,14 @@ pub lift-all : (w top h : ℕ) → w < 2 ^ 52 → Lift w top h → 2 ^ 62 ≤ to
 lift-all w top h q l s = record { is = rw (unitsOf-low w q) (l .is); large = s; room = l .room; few = omega arith }
 
 -- ---- a normal number
-pub placed-even : (w k : ℕ) → w < 9218868437227405312 → 2 ^ 52 ≤ w → k ≡ w / 2 ^ 52 - 1 → k % 2 ≡ 0 → Placed w ((w % 2 ^ 52 + 2 ^ 52) * 1024) (k / 2 + 26)
+pub placed-even : (w k : ℕ) → w < 0x7ff0_0000_0000_0000 → 2 ^ 52 ≤ w → k ≡ w / 2 ^ 52 - 1 → k % 2 ≡ 0 → Placed w ((w % 2 ^ 52 + 2 ^ 52) * 1024) (k / 2 + 26)
 placed-even w k u v e z =
     let q = w % 2 ^ 52 + 2 ^ 52 in
     let a : 2 * (k / 2 + 26) ≡ k + 52 = omega arith in
     let b : q * 2 ^ k * 2 ^ 62 ≡ q * 1024 * (2 ^ k * 2 ^ 52) = omega arith in
     record { is = rw (unitsOf-normal w v, a, pow-add 2 k 52, ← e) b; large = omega arith; room = omega arith; few = omega arith }
 
-pub placed-odd : (w k : ℕ) → w < 9218868437227405312 → 2 ^ 52 ≤ w → k ≡ w / 2 ^ 52 - 1 → k % 2 ≢ 0 → Placed w ((w % 2 ^ 52 + 2 ^ 52) * 2048) (k / 2 + 26)
+pub placed-odd : (w k : ℕ) → w < 0x7ff0_0000_0000_0000 → 2 ^ 52 ≤ w → k ≡ w / 2 ^ 52 - 1 → k % 2 ≢ 0 → Placed w ((w % 2 ^ 52 + 2 ^ 52) * 2048) (k / 2 + 26)
 placed-odd w k u v e z =
     let q = w % 2 ^ 52 + 2 ^ 52 in
     let a : 2 * (k / 2 + 26) + 1 ≡ k + 52 = omega arith in
@@ -119,7 +119,7 @@ placed-odd w k u v e z =
     record { is = rw (unitsOf-normal w v, ← e) (b ∙ ap (λ (x : ℕ). q * 1024 * x) (sym p) ∙ c); large = omega arith; room = omega arith; few = omega arith }
 
 -- either way, with no branch
-pub placed-both : (w k : ℕ) → w < 9218868437227405312 → 2 ^ 52 ≤ w → k ≡ w / 2 ^ 52 - 1 → Placed w ((w % 2 ^ 52 + 2 ^ 52) * (k % 2 * 1024 + 1024)) (k / 2 + 26)
+pub placed-both : (w k : ℕ) → w < 0x7ff0_0000_0000_0000 → 2 ^ 52 ≤ w → k ≡ w / 2 ^ 52 - 1 → Placed w ((w % 2 ^ 52 + 2 ^ 52) * (k % 2 * 1024 + 1024)) (k / 2 + 26)
 placed-both w k u v e = go (k % 2) refl
   where
     go : (b : ℕ) → k % 2 ≡ b → Placed w ((w % 2 ^ 52 + 2 ^ 52) * (k % 2 * 1024 + 1024)) (k / 2 + 26)

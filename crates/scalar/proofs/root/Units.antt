@@ -144,7 +144,7 @@ pub unitsOf-normal : (w : ℕ) → 2 ^ 52 ≤ w → unitsOf w ≡ (w % 2 ^ 52 + 
 unfolding unitsOf
 unitsOf-normal w h = ap (λ (t : Bool). cond t w ((w % 2 ^ 52 + 2 ^ 52) * 2 ^ (w / 2 ^ 52 - 1))) (le-ltb w (2 ^ 52) h)
 
-pub rootOf-pattern : (w : ℕ) → 0 < w → w < 9218868437227405312 → rootOf (ofBits binary64 w) ≡ unitsRoot (unitsOf w)
+pub rootOf-pattern : (w : ℕ) → 0 < w → w < 0x7ff0_0000_0000_0000 → rootOf (ofBits binary64 w) ≡ unitsRoot (unitsOf w)
 rootOf-pattern w p h = go (ltb w (2 ^ 52)) (ltb→lt w (2 ^ 52)) (nltb→le w (2 ^ 52))
   where
     go : (b : Bool) → (T b → w < 2 ^ 52) → (T (not b) → 2 ^ 52 ≤ w) → rootOf (ofBits binary64 w) ≡ unitsRoot (unitsOf w)
@@ -170,7 +170,7 @@ pub record Answer (w h R : ℕ) : Type 0 where
   pub low : 2 ^ 52 ≤ R
   pub high : R < 2 ^ 53
 
-pub answer : (w top h R : ℕ) → 0 < w → w < 9218868437227405312 → Placed w top h → Near (top * 2 ^ 42) R → Answer w h R
+pub answer : (w top h R : ℕ) → 0 < w → w < 0x7ff0_0000_0000_0000 → Placed w top h → Near (top * 2 ^ 42) R → Answer w h R
 answer w top h R p q s n =
     let large : 2 ^ 62 ≤ top = s .large in
     let room : top + 2048 ≤ 2 ^ 64 = s .room in

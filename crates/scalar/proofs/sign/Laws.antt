@@ -76,7 +76,7 @@ no-room a b h = omega arith
 pub sign-clear : (x : Float) → ne x x ≡ false → toBits binary64 x < 2 ^ 63 → one ≡ signumOf x
 unfolding toBits signumOf
 sign-clear nan d h = absurd (true≢false (sym nan-differs ∙ d))
-sign-clear (inf true) d h = absurd (no-room 9218868437227405312 0 h)
+sign-clear (inf true) d h = absurd (no-room 0x7ff0_0000_0000_0000 0 h)
 sign-clear (inf false) d h = refl
 sign-clear (fin true m e) d h = absurd (no-room _ _ h)
 sign-clear (fin false m e) d h = refl
@@ -93,6 +93,6 @@ pub sign-set : (x : Float) → T (fits binary64 x) → ne x x ≡ false → 2 ^ 
 unfolding toBits signumOf
 sign-set nan t d h = absurd (true≢false (sym nan-differs ∙ d))
 sign-set (inf true) t d h = refl
-sign-set (inf false) t d h = absurd (no-two 9218868437227405312 0 h (omega arith))
+sign-set (inf false) t d h = absurd (no-two 0x7ff0_0000_0000_0000 0 h (omega arith))
 sign-set (fin true m e) t d h = refl
 sign-set (fin false m e) t d h = absurd (no-two _ _ h (toBits-lt binary64 (fin true m e) (flipped m e t)))

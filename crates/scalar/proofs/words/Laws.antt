@@ -7,10 +7,10 @@ use Rattle.scalar.specs.Inner.{valueOf}
 
 -- (a * 2 ^ 27 + c) ^ 2, in parts that stay within a word
 pub squared : (a c : ℕ)
-    → valueOf (a * a / 1024 + a * c / 68719476736) (a * c % 68719476736 * 268435456) + c * c + a * a % 1024 * 18014398509481984 ≡ (a * 134217728 + c) * (a * 134217728 + c)
+    → valueOf (a * a / 1024 + a * c / 2 ^ 36) (a * c % 2 ^ 36 * 2 ^ 28) + c * c + a * a % 1024 * 2 ^ 54 ≡ (a * 2 ^ 27 + c) * (a * 2 ^ 27 + c)
 squared a c = omega arith
 
-pub scaled-words : (top : ℕ) → valueOf (top / 4194304) (top % 4194304 * 4398046511104) ≡ top * 2 ^ 42
+pub scaled-words : (top : ℕ) → valueOf (top / 2 ^ 22) (top % 2 ^ 22 * 2 ^ 42) ≡ top * 2 ^ 42
 scaled-words top = omega arith
 
 pub record Halves (a c : ℕ) : Type 0 where
@@ -18,10 +18,10 @@ pub record Halves (a c : ℕ) : Type 0 where
   pub mixed : a * c ≤ 2 ^ 53
   pub low : c * c ≤ 2 ^ 54
 
-pub halves : (r : ℕ) → r < 2 ^ 53 → Halves (r / 134217728) (r % 134217728)
+pub halves : (r : ℕ) → r < 2 ^ 53 → Halves (r / 2 ^ 27) (r % 2 ^ 27)
 halves r h =
-    let a = r / 134217728 in
-    let c = r % 134217728 in
+    let a = r / 2 ^ 27 in
+    let c = r % 2 ^ 27 in
     let p : a ≤ 2 ^ 26 = omega arith in
     let q : c ≤ 2 ^ 27 = omega arith in
     record { high = mul-le-mul p p; mixed = mul-le-mul p q; low = mul-le-mul q q }
@@ -33,5 +33,5 @@ gap-carry ah al bh bl lo a l w h b e = omega arith
 pub gap-plain : (ah al bh bl lo : ℕ) → al < 2 ^ 64 → lo < 2 ^ 64 → (lo + bl) % 2 ^ 64 ≡ al → bl ≤ al → bl < 2 ^ 64 → ah ≡ bh → valueOf ah al ≡ valueOf bh bl + lo
 gap-plain ah al bh bl lo a l w h b e = omega arith
 
-pub small-high : (hi top : ℕ) → hi ≤ top / 4194304 + 1 → top < 2 ^ 64 → hi < 2 ^ 63
+pub small-high : (hi top : ℕ) → hi ≤ top / 2 ^ 22 + 1 → top < 2 ^ 64 → hi < 2 ^ 63
 small-high hi top h t = omega arith
