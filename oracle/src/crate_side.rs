@@ -116,6 +116,44 @@ mod tests {
         assert_eq!(passes_of(&[&[1.0], &[2.0], &J], 10), Some(1));
     }
 
+    /// The inputs of docs/DIFFERENCES.md on which the crate gives an answer that looks odd.
+    #[test]
+    fn odd_answers() {
+        let large = 2f64.powi(700);
+        // Item l: the result is not finite.
+        let (t, _) = schur(2, &[0.0, large, large, 0.0], TOLERANCE, 1).unwrap();
+        assert!(!t[0].is_finite());
+        // Item m: T is all zeros.
+        let (t, _) = schur(2, &[1.0, large, 0.0, 1.0], TOLERANCE, 1).unwrap();
+        assert_eq!(t, [0.0; 4]);
+        // A column too small to see: Q's rows are turned by -1, and T is not.
+        let entries = [1.0, -(2f64.powi(-600)), 0.0, 1.0, 2.0, 0.0, 0.0, 0.0, 3.0];
+        let (t, q) = schur(3, &entries, TOLERANCE, 10).unwrap();
+        assert_eq!(t, [1.0, 0.0, 0.0, 1.0, 2.0, 0.0, 0.0, 0.0, 3.0]);
+        assert_eq!(q, [1.0, 0.0, 0.0, 0.0, -1.0, 0.0, 0.0, 0.0, -1.0]);
+    }
+
+    #[test]
+    fn odd_eigenvalues() {
+        // The plain entry has the larger first at order 2, the reader of T the diagonal.
+        let matrix: DMatrix<f64> = DMatrix::from_column_slice(2, 2, &[2.0, 0.0, 0.0, 3.0]);
+        let plain = matrix.eigenvalues().unwrap();
+        assert_eq!(plain.as_slice(), [3.0, 2.0]);
+        let reader = Schur::new(matrix).eigenvalues().unwrap();
+        assert_eq!(reader.as_slice(), [2.0, 3.0]);
+        // A standing block whose squares vanish after the unscaling: one real number twice.
+        let small: f64 = 1e-200;
+        let entries = [0.0, small, 0.0, -small, 0.0, 0.0, 0.0, 0.0, 2.0 * small];
+        let run = Schur::new(DMatrix::from_column_slice(3, 3, &entries));
+        assert!(run.eigenvalues().is_none());
+        let pairs: Vec<_> = run
+            .complex_eigenvalues()
+            .iter()
+            .map(|z| (z.re.to_bits(), z.im.to_bits()))
+            .collect();
+        assert_eq!(pairs, [(0, 0), (0, 0), ((2.0 * small).to_bits(), 0)]);
+    }
+
     #[test]
     fn counts_as_a_linear_search_does() {
         let mut random = Random::stream(1, 0);
