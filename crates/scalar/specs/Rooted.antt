@@ -1,7 +1,7 @@
 -- What the root of a positive finite number is, in the words of document 01, over whole numbers alone.
 -- Proved of the definition: the root of every such x is one (`root-is` of `proofs/Theorem.antt`), and nothing else is (`root-one` of
--- `proofs/Unique.antt`); a root of any value of the format is one too (`rootOf-fits` of `Theorem`), and halves never tie (`no-tie` of
--- `proofs/root/Whole.antt`).
+-- `proofs/Unique.antt`); a root of any value of the format is one too (`rootOf-fits` of `Theorem`). For a given X at most one R
+-- meets the inequalities (`near-one` of `proofs/root/Whole.antt`), and halves never tie (`no-tie` there).
 use Prim.Native.Nat.{ℕ, _+_, _-_, _*_, _^_, _≤_, _<_}
 use lib.Dec.{T}
 use mathlib.Core.Bool.{false}

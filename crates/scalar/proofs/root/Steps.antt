@@ -1,4 +1,5 @@
--- The invariants of the two loops, and what a turn of each does. Assumes nothing.
+-- What the loops and tests of the root's functions come to, in plain numbers: digit by digit, a subnormal number lifted, a normal one placed,
+-- a candidate taken. Assumes nothing.
 use Prim.Native.Nat.{ℕ, zero, suc, _+_, _-_, _*_, _/_, _%_, _^_, _≤_, _<_}
 use mathlib.Core.Path.{_≡_, refl, sym, ap, _∙_, subst}
 use mathlib.Core.Logic.{_≢_}
@@ -24,37 +25,23 @@ digits-none S h = record { few = omega arith; small = h; rest = omega arith; sho
 bound-of : (k r : ℕ) → k ≤ 53 → r < 2 ^ k → r < 2 ^ 53
 bound-of k r h l = lt-of-lt-of-le l (pow-mono h)
 
-pub digits-one : (S left rem root k : ℕ) → Digits S left rem root k → k < 53 → root * 4 + 1 ≤ rem * 4 + left / 2 ^ 62
-    → Digits S (left % 2 ^ 62 * 4) (rem * 4 + left / 2 ^ 62 - (root * 4 + 1)) (root * 2 + 1) (k + 1)
-digits-one S left rem root k d h t =
+-- a turn takes two digits of S into the root's square and what is left of it
+turn : (S left rem root k root' rem' : ℕ) → Digits S left rem root k → k < 53 → root' ≤ root * 2 + 1 → rem' ≤ 2 * root' → root' * root' + rem' ≡ (root * root + rem) * 4 + left / 2 ^ 62
+    → Digits S (left % 2 ^ 62 * 4) rem' root' (k + 1)
+turn S left rem root k root' rem' d h b r q =
     let e : 2 ^ (k + 1) ≡ 2 ^ k * 2 = pow-add 2 k 1 in
     let f : 4 ^ (k + 1) ≡ 4 ^ k * 4 = pow-add 4 k 1 in
-    let s : root * 2 + 1 < 2 ^ (k + 1) = omega arith in
+    let s : root' < 2 ^ (k + 1) = omega arith in
     let i : S * 4 ^ k ≡ (root * root + rem) * 2 ^ 64 + left = d .is in
-    record {
-      few = omega arith;
-      small = omega arith;
-      rest = omega arith;
-      short = s;
-      bound = bound-of (k + 1) (root * 2 + 1) (omega arith) s;
-      is = rw f (omega arith);
-    }
+    record { few = omega arith; small = omega arith; rest = r; short = s; bound = bound-of (k + 1) root' (omega arith) s; is = rw f (omega arith) }
+
+pub digits-one : (S left rem root k : ℕ) → Digits S left rem root k → k < 53 → root * 4 + 1 ≤ rem * 4 + left / 2 ^ 62
+    → Digits S (left % 2 ^ 62 * 4) (rem * 4 + left / 2 ^ 62 - (root * 4 + 1)) (root * 2 + 1) (k + 1)
+digits-one S left rem root k d h t = turn S left rem root k (root * 2 + 1) (rem * 4 + left / 2 ^ 62 - (root * 4 + 1)) d h (omega arith) (omega arith) (omega arith)
 
 pub digits-zero : (S left rem root k : ℕ) → Digits S left rem root k → k < 53 → rem * 4 + left / 2 ^ 62 < root * 4 + 1
     → Digits S (left % 2 ^ 62 * 4) (rem * 4 + left / 2 ^ 62) (root * 2) (k + 1)
-digits-zero S left rem root k d h t =
-    let e : 2 ^ (k + 1) ≡ 2 ^ k * 2 = pow-add 2 k 1 in
-    let f : 4 ^ (k + 1) ≡ 4 ^ k * 4 = pow-add 4 k 1 in
-    let s : root * 2 < 2 ^ (k + 1) = omega arith in
-    let i : S * 4 ^ k ≡ (root * root + rem) * 2 ^ 64 + left = d .is in
-    record {
-      few = omega arith;
-      small = omega arith;
-      rest = omega arith;
-      short = s;
-      bound = bound-of (k + 1) (root * 2) (omega arith) s;
-      is = rw f (omega arith);
-    }
+digits-zero S left rem root k d h t = turn S left rem root k (root * 2) (rem * 4 + left / 2 ^ 62) d h (omega arith) (omega arith) (omega arith)
 
 whole-part : (S A left : ℕ) → left < 2 ^ 64 → S * 4 ^ 53 ≡ A * 2 ^ 64 + left → S * 2 ^ 42 ≡ A
 whole-part S A left h e = omega arith
