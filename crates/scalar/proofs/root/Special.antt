@@ -11,7 +11,7 @@ use lib.Ieee.{Float, nan, inf, odd, binary64, ofBits, ofFields, toBits, fits, ne
 use lib.Ieee.Exact.{odd-sign}
 use borrow.Author.Tests.{le-leb}
 use Rattle.scalar.specs.Root.{rootOf, rootBits}
-use Rattle.scalar.proofs.bits.Patterns.{only-nan, read-nan, nan-pattern, nan-bits, back}
+use Rattle.scalar.proofs.Patterns.{only-nan, read-nan, nan-pattern, nan-bits, back}
 use Rattle.scalar.proofs.root.Units.{rootOf-neg}
 
 -- ---- NaN

@@ -2,7 +2,7 @@
 use mathlib.Core.Path.{sym, ap, _∙_}
 use lib.Ieee.{toBits, binary64}
 use borrow.Author.Needs.{needs}
-use Rattle.scalar.proofs.bits.Patterns.{only-nan, no-nan, nan-bits}
+use Rattle.scalar.proofs.Patterns.{only-nan, no-nan, nan-bits}
 use Rattle.scalar.proofs.bits.bits_of.Statement.{statement}
 use Rattle.scalar.proofs.bits.bits_of.Tie as tie
 

@@ -1,5 +1,5 @@
 -- `scalar::bits::not_a_number` meets its contract. Assumes nothing.
-use Rattle.scalar.proofs.bits.Patterns.{quiet}
+use Rattle.scalar.proofs.Patterns.{quiet}
 use Rattle.scalar.proofs.bits.not_a_number.Statement.{statement}
 use Rattle.scalar.proofs.bits.not_a_number.Tie as tie
 

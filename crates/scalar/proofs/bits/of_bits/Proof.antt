@@ -1,7 +1,7 @@
 -- `scalar::bits::of_bits` meets its contract: either way out by the test that the code makes. Assumes nothing.
 use mathlib.Core.Path.{sym, _∙_}
 use borrow.Author.Needs.{needs}
-use Rattle.scalar.proofs.bits.Patterns.{nan-pattern, no-pattern}
+use Rattle.scalar.proofs.Patterns.{nan-pattern, no-pattern}
 use Rattle.scalar.proofs.bits.of_bits.Statement.{statement}
 use Rattle.scalar.proofs.bits.of_bits.Tie as tie
 

@@ -1,5 +1,5 @@
 -- `scalar::class::is_finite` meets its contract. Assumes nothing.
-use Rattle.scalar.proofs.class.Difference.{self-difference}
+use Rattle.scalar.proofs.Difference.{self-difference}
 use Rattle.scalar.proofs.class.is_finite.Statement.{statement}
 use Rattle.scalar.proofs.class.is_finite.Tie as tie
 

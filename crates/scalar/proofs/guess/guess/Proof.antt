@@ -1,7 +1,7 @@
 -- `scalar::guess::guess` is safe: the two patterns that it makes are no NaN's. Nothing is said of what it answers. Assumes nothing.
 use native.Mathlib.Omega.{arith}
 use borrow.Author.Needs.{needs}
-use Rattle.scalar.proofs.bits.Patterns.{no-pattern}
+use Rattle.scalar.proofs.Patterns.{no-pattern}
 use Rattle.scalar.proofs.guess.guess.Statement.{statement}
 use Rattle.scalar.proofs.guess.guess.Tie as tie
 

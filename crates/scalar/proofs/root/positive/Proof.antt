@@ -4,7 +4,7 @@ use mathlib.Core.Path.{_∙_}
 use native.Mathlib.Omega.{arith}
 use borrow.Author.Needs.{needs}
 use Rattle.loops.specs.Tests.{truth}
-use Rattle.scalar.proofs.bits.Patterns.{no-pattern, below-no-nan, back}
+use Rattle.scalar.proofs.Patterns.{no-pattern, below-no-nan, back}
 use Rattle.scalar.proofs.root.Units.{Answer, answer}
 use Rattle.scalar.proofs.root.NearOne.{bits-near}
 use Rattle.scalar.proofs.root.positive.Statement.{statement}

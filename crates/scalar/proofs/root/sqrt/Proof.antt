@@ -6,7 +6,7 @@ use lib.Ieee.Bits.{toBits-lt}
 use borrow.Author.Needs.{needs}
 use Rattle.loops.specs.Tests.{truth}
 use Rattle.scalar.specs.Root.{rootOf}
-use Rattle.scalar.proofs.bits.Patterns.{no-nan, back}
+use Rattle.scalar.proofs.Patterns.{no-nan, back}
 use Rattle.scalar.proofs.root.Special.{nan-root, own-root, root-zero, root-infinity, root-minus-zero, root-else}
 use Rattle.scalar.proofs.root.sqrt.Statement.{statement}
 use Rattle.scalar.proofs.root.sqrt.Tie as tie

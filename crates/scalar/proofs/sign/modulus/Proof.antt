@@ -1,7 +1,7 @@
 -- `scalar::sign::modulus` meets its contract: each way out by the comparisons on it. That x fits the format is what owning an f64 tells;
 -- it makes a zero the canonical one. Assumes nothing.
 use Rattle.loops.specs.Tests.{truth}
-use Rattle.scalar.proofs.sign.Laws.{below-zero, equal-zero, above-zero}
+use Rattle.scalar.proofs.Signs.{below-zero, equal-zero, above-zero}
 use Rattle.scalar.proofs.sign.modulus.Statement.{statement}
 use Rattle.scalar.proofs.sign.modulus.Tie as tie
 

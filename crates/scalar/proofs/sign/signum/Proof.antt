@@ -1,8 +1,8 @@
 -- `scalar::sign::signum` meets its contract: the pattern of a float with its sign bit set is 2 ^ 63 or more. Assumes nothing.
 use native.Mathlib.Omega.{arith}
 use Rattle.loops.specs.Tests.{truth}
-use Rattle.scalar.proofs.bits.Patterns.{no-nan}
-use Rattle.scalar.proofs.sign.Laws.{own-sign, sign-clear, sign-set}
+use Rattle.scalar.proofs.Patterns.{no-nan}
+use Rattle.scalar.proofs.Signs.{own-sign, sign-clear, sign-set}
 use Rattle.scalar.proofs.sign.signum.Statement.{statement}
 use Rattle.scalar.proofs.sign.signum.Tie as tie
 

@@ -15,7 +15,7 @@ use Rattle.loops.specs.Tests.{truth, falsity}
 use Rattle.loops.specs.Constants.{one, minusOne}
 use Rattle.loops.specs.Constants.{zero as zeroF}
 use Rattle.scalar.specs.Sign.{modulusOf, signumOf}
-use Rattle.scalar.proofs.bits.Patterns.{only-nan}
+use Rattle.scalar.proofs.Patterns.{only-nan}
 
 -- ---- below 0
 

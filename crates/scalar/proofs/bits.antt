@@ -1,2 +1,0 @@
--- Laws of patterns that more than one module's proofs use.
-pub mod Patterns

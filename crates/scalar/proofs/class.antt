@@ -1,2 +1,0 @@
--- Laws of the tests on one number.
-pub mod Difference

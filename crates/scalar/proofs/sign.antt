@@ -1,2 +1,0 @@
--- Laws of sign and magnitude.
-pub mod Laws
