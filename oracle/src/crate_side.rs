@@ -154,6 +154,39 @@ mod tests {
         assert_eq!(pairs, [(0, 0), (0, 0), ((2.0 * small).to_bits(), 0)]);
     }
 
+    /// The inputs of docs/DIFFERENCES.md that are refused here and that the crate answers, or never
+    /// does.
+    #[test]
+    fn answers_where_we_refuse() {
+        let rows = |rows: [[f64; 3]; 3]| DMatrix::from_fn(3, 3, |i, j| rows[i][j]);
+        let run =
+            |m: &DMatrix<f64>, tolerance, budget| schur(m.nrows(), m.as_slice(), tolerance, budget);
+        assert!(run(&DMatrix::zeros(0, 0), TOLERANCE, 1).is_some());
+        assert!(run(&DMatrix::zeros(65, 65), TOLERANCE, 1).is_some());
+        assert!(std::panic::catch_unwind(|| schur(3, &[0.0; 8], TOLERANCE, 1)).is_err());
+        // A tolerance of NaN closes no window; one of 1 takes a complex pair for two real numbers.
+        let coupled = rows([[1.0, 2.0, 3.0], [4.0, 5.0, 6.0], [7.0, 8.0, 10.0]]);
+        assert!(run(&coupled, f64::NAN, 10_000).is_none());
+        let turning = rows([[0.0, -1.0, 0.0], [1.0, 0.0, 0.0], [0.0, 0.0, 2.0]]);
+        let (t, _) = run(&turning, 1.0, 1).unwrap();
+        assert_eq!(t[1], 0.0);
+        // A budget of 0 is no bound.
+        assert!(run(&diagonal(&[&J, &J]), TOLERANCE, 0).is_some());
+        // Item h: with one NaN no window closes.
+        let mut missing = coupled.clone();
+        missing[(2, 1)] = f64::NAN;
+        assert!(run(&missing, TOLERANCE, 10_000).is_none());
+        // An axis whose squares vanish leaves a bulge below.
+        let p = |k| 2f64.powi(k);
+        let steep = rows([[0.0; 3], [p(-521), 1.0, -1.0], [0.0, p(-47), p(-506)]]);
+        let (t, _) = run(&steep, 0.0, 10).unwrap();
+        assert_ne!(t[2], 0.0);
+        // A standing block whose discriminant is infinity less infinity after the unscaling.
+        let large = rows([[5e299, -1e300, 0.0], [1e300, -5e299, 0.0], [0.0; 3]]);
+        let pair = Schur::new(large).complex_eigenvalues();
+        assert!(pair[0].im.is_nan());
+    }
+
     #[test]
     fn counts_as_a_linear_search_does() {
         let mut random = Random::stream(1, 0);

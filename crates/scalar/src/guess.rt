@@ -76,7 +76,7 @@ fn start(v: u64) -> Point {
     }
 }
 
-// Near the root of z times the power of two with the exponent's field of b, less one. With the point g,
+// Near the root of z times k, the power of two with the pattern b + 2^52. With the point g,
 // e = z - g * g (which is exact), s = e / (2 * g) and q = e / (2 * g)^2 the root of z is
 // g + s * (1 - q + 2 q^2 - 5 q^3 + 14 q^4 - ..), and the coefficients are the Catalan numbers.
 pub(crate) fn guess(v: u64, b: u64) -> f64

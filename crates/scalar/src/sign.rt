@@ -12,13 +12,10 @@ pub struct Exp {
 pub fn modulus(x: f64) -> f64
     ensures { λ r. ⌜ r ≡ modulusOf x ⌝ }
 {
-    if x < 0.0 {
-        return -x;
+    if x != x {
+        return x;
     }
-    if x == 0.0 {
-        return 0.0;
-    }
-    x
+    f64::from_bits(f64::to_bits(x) % 0x8000_0000_0000_0000)
 }
 
 // 1 with the sign bit of x; NaN for NaN.
