@@ -2,7 +2,7 @@
 -- `range f a b s` is `for i in a..b`: s after turns a, a + 1, .., b - 1, and s itself where b ≤ a.
 -- A loop's invariant says that the state is `times f i` (or `range f a i`) of the state at the start: `-none` begins it, `-more` keeps it,
 -- `-done` ends it. What a loop does to all it runs over is `-hold`; what it leaves alone, `-frame`; what one turn put somewhere, `-at`.
-use mathlib.Core.Path.{_≡_, refl, _∙_}
+use mathlib.Core.Path.{_≡_, refl, ap, _∙_}
 use mathlib.Core.Logic.{_≢_}
 use mathlib.Core.List.{List}
 use Prim.Native.Nat.{ℕ, zero, suc, _+_, _-_, _<_, _≤_, max}
@@ -53,6 +53,12 @@ times-at f (suc n) t j p d h keep = go (decLt j n) (λ l. times-at f n t j p d l
     go (yes l) r = keep n (times f n t) (omega arith) (omega arith) ∙ r l
     go (no l) r = let e : n ≡ j = omega arith in rw e
 
+-- turns that do the same
+pub times-same : {A : Type 0} (f g : ℕ → A → A) (n : ℕ) (a : A) → ((i : ℕ) (x : A) → i < n → f i x ≡ g i x) → times f n a ≡ times g n a
+unfolding times
+times-same f g zero a same = refl
+times-same f g (suc n) a same = ap (f n) (times-same f g n a (λ i x l. same i x (omega arith))) ∙ same n (times g n a) (omega arith)
+
 -- ---- `for i in a..b`
 
 unfoldable pub range : {A : Type 0} → (ℕ → A → A) → ℕ → ℕ → A → A
@@ -90,3 +96,18 @@ unfolding range
 range-at f a b t j p d h k keep =
     let e : a + (j - a) ≡ j = omega arith in
     rw e at (times-at (λ k. f (a + k)) (b - a) t (j - a) p d (omega arith) (λ i s u v. keep (a + i) s (omega arith) (omega arith) (omega arith)))
+
+pub range-same : {A : Type 0} (f g : ℕ → A → A) (a b : ℕ) (s : A) → ((i : ℕ) (x : A) → a ≤ i → i < b → f i x ≡ g i x) → range f a b s ≡ range g a b s
+unfolding range
+range-same f g a b s same = times-same (λ k. f (a + k)) (λ k. g (a + k)) (b - a) s (λ k x l. same (a + k) x (omega arith) (omega arith))
+
+-- ---- a few turns
+
+pub range-one : {A : Type 0} (f : ℕ → A → A) (a : ℕ) (s : A) → range f a (a + 1) s ≡ f a s
+range-one f a s = range-more f a a s (omega arith) ∙ ap (f a) (range-none f a s)
+
+pub range-two : {A : Type 0} (f : ℕ → A → A) (a : ℕ) (s : A) → range f a (a + 2) s ≡ f (a + 1) (f a s)
+range-two f a s = let e : a + 2 ≡ a + 1 + 1 = omega arith in rw e (range-more f a (a + 1) s (omega arith) ∙ ap (f (a + 1)) (range-one f a s))
+
+pub range-three : {A : Type 0} (f : ℕ → A → A) (a : ℕ) (s : A) → range f a (a + 3) s ≡ f (a + 2) (f (a + 1) (f a s))
+range-three f a s = let e : a + 3 ≡ a + 2 + 1 = omega arith in rw e (range-more f a (a + 2) s (omega arith) ∙ ap (f (a + 2)) (range-two f a s))

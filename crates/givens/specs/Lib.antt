@@ -1,0 +1,3 @@
+-- What a rotation is and how it is made (`Rotation`), and what it does to rows and to columns of a matrix (`Rotated`).
+pub mod Rotation
+pub mod Rotated

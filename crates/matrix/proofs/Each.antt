@@ -1,0 +1,63 @@
+-- What a list holds after its first k numbers were rewritten: `eachTo`. Assumes nothing.
+use mathlib.Core.Path.{_≡_, sym, ap, _∙_}
+use mathlib.Core.List.{List}
+use Prim.Native.Nat.{ℕ, _+_, _<_, _≤_}
+use native.Mathlib.Decide.{decLt}
+use native.Mathlib.Omega.{arith}
+use lib.ListN.{length, set, length-set}
+use lib.Seq.{getD-set-same, getD-set-other, ext-getD}
+use lib.Ieee.{Float, nan}
+use Rattle.loops.specs.Rounded.{_!_}
+use Rattle.loops.specs.Times.{times-none, times-more, times-done, times-same, times-length, times-frame, times-at}
+use Rattle.matrix.specs.Vectors.{eachTo}
+
+-- ---- a loop that rewrites them one by one: before the first turn, one more, all done
+
+pub eachTo-none : (g : ℕ → Float → Float) (t : List Float) → eachTo 0 g t ≡ t
+unfolding eachTo
+eachTo-none g t = times-none _ t
+
+pub eachTo-more : (k : ℕ) (g : ℕ → Float → Float) (t : List Float) → eachTo (k + 1) g t ≡ set (eachTo k g t) k (g k (eachTo k g t ! k))
+unfolding eachTo
+eachTo-more k g t = times-more _ k t
+
+pub eachTo-done : (j k : ℕ) (g : ℕ → Float → Float) (t : List Float) → j ≤ k → k ≤ j → eachTo j g t ≡ eachTo k g t
+unfolding eachTo
+eachTo-done j k g t h l = times-done _ j k t h l
+
+-- ---- what stands where
+
+pub eachTo-length : (k : ℕ) (g : ℕ → Float → Float) (t : List Float) → length (eachTo k g t) ≡ length t
+unfolding eachTo
+eachTo-length k g t = times-length _ k t (λ i s. simp length-set)
+
+pub eachTo-past : (k : ℕ) (g : ℕ → Float → Float) (t : List Float) (i : ℕ) → k ≤ i → eachTo k g t ! i ≡ t ! i
+unfolding eachTo
+eachTo-past k g t i h = times-frame _ k t i nan (λ j s l. getD-set-other s j i _ nan (omega arith))
+
+pub eachTo-at : (k : ℕ) (g : ℕ → Float → Float) (t : List Float) (i : ℕ) → i < k → k ≤ length t → eachTo k g t ! i ≡ g i (t ! i)
+unfolding eachTo
+eachTo-at k g t i h l =
+    times-at _ k t i i nan h (λ j s m d. getD-set-other s j i _ nan (omega arith))
+    ∙ getD-set-same (eachTo i g t) i _ nan (omega (arith, eachTo-length i g t))
+    ∙ ap (g i) (eachTo-past i g t i (omega arith))
+
+-- ---- two of them
+
+-- what is put where the two are told the same is the same
+pub eachTo-same : (k : ℕ) (g h : ℕ → Float → Float) (t : List Float) → ((i : ℕ) (x : Float) → i < k → g i x ≡ h i x) → eachTo k g t ≡ eachTo k h t
+unfolding eachTo
+eachTo-same k g h t e = times-same _ _ k t (λ i s l. ap (set s i) (e i (s ! i) l))
+
+-- one after the other
+pub eachTo-twice : (k : ℕ) (g h : ℕ → Float → Float) (t : List Float) → k ≤ length t → eachTo k h (eachTo k g t) ≡ eachTo k (λ i x. h i (g i x)) t
+eachTo-twice k g h t l =
+    ext-getD nan _ _ (eachTo-length k h _ ∙ eachTo-length k g t ∙ sym (eachTo-length k _ t)) (λ i m. go i (decLt i k))
+  where
+    go : (i : ℕ) → Dec (i < k) → eachTo k h (eachTo k g t) ! i ≡ eachTo k (λ i x. h i (g i x)) t ! i
+    go i (yes m) =
+        eachTo-at k h _ i m (omega (arith, eachTo-length k g t))
+        ∙ ap (h i) (eachTo-at k g t i m l)
+        ∙ sym (eachTo-at k _ t i m l)
+    go i (no m) =
+        eachTo-past k h _ i (omega arith) ∙ eachTo-past k g t i (omega arith) ∙ sym (eachTo-past k _ t i (omega arith))
