@@ -1,0 +1,44 @@
+// One column of the reduction.
+ghost use mathlib.Core.Path.{_≡_};
+ghost use lib.ListN.{length};
+ghost use Prim.Native.Nat.{_≤_};
+ghost use Rattle.householder.specs.Cleared.{cleared, clearOf, copied};
+
+// Writes c over the first numbers of w.
+fn copy_from(w: &mut [f64], c: &[f64])
+    requires { ⌜ length (now c) ≤ length (now w) ⌝ }
+    ensures { λ _. ⌜ now (w .exit) ≡ copied (now (c .entry)) (now (w .entry)) ⌝ }
+{
+    for i in 0..c.len() {
+        w[i] = c[i];
+    }
+}
+
+// Clears column icol of the matrix t of order n below the entry under its diagonal, by a reflection of
+// both sides, and leaves the reflection's axis there. `work` holds the axis while it is used. Answers
+// the norm with its sign; NaN, with nothing done, where there is no row below row icol or `work` is
+// shorter than n.
+pub fn clear_column(t: &mut [f64], n: usize, icol: usize, work: &mut [f64]) -> f64
+    ensures { λ r. ⌜ cleared r (now (t .exit)) (now (work .exit)) ≡ clearOf n icol (now (t .entry)) (now (work .entry)) ⌝ }
+{
+    if !matrix::block_fits(n, t.len(), icol, 2, icol, 2) {
+        return scalar::not_a_number();
+    }
+    if n > work.len() {
+        return scalar::not_a_number();
+    }
+    let next = icol + 1;
+    let a = icol * n + next;
+    let e = icol * n + n;
+    let m = e - a;
+    let axis = crate::axis::reflection_axis_mut(&mut t[a..e]);
+    let norm = axis.norm;
+    if !axis.reflected {
+        return norm;
+    }
+    copy_from(work, &t[a..e]);
+    let sign = scalar::signum(norm);
+    reflection::reflect_rows_with_sign(&work[0..m], t, n, n, next, sign);
+    reflection::reflect_with_sign(&work[0..m], t, n, next, next, n, sign);
+    norm
+}

@@ -1,0 +1,7 @@
+-- Laws that other crates may cite: what the kernels change and what they leave alone (`Frames`). The others are one turn of a kernel's loop:
+-- by an axis of two or three (`Turning`), by an axis of run-time length down a column (`ColumnTurn`) and along one row or four (`RowTurn`, `FourRows`).
+pub mod Frames
+mod Turning
+mod ColumnTurn
+mod RowTurn
+mod FourRows

@@ -1,0 +1,66 @@
+-- One turn of the loops over rows: at a column, the entries that are put are what the rule says; and the rows may be taken in portions,
+-- since the rule of each reads that row alone. Assumes nothing.
+use Prim.Native.Nat.{ℕ, _+_, _-_, _*_, _≤_, _<_}
+use mathlib.Core.Path.{_≡_, sym, ap, _∙_}
+use mathlib.Core.List.{List}
+use native.Mathlib.Nat.{add-assoc}
+use native.Mathlib.Omega.{arith}
+use lib.ListN.{length, set}
+use lib.Ieee.{Float}
+use Rattle.loops.specs.Constants.{minusTwo}
+use Rattle.loops.specs.Place.{place}
+use Rattle.loops.specs.Rounded.{_⊕_, _⊗_, _!_}
+use Rattle.loops.specs.Times.{range, range-one}
+use Rattle.matrix.specs.Entries.{atEntry, inBlock}
+use Rattle.matrix.specs.Product.{along}
+use Rattle.matrix.proofs.Blocks.{inBlock-frame, inBlock-same, inBlock-rows, inBlock-column}
+use Rattle.matrix.proofs.Sums.{bare-same}
+use Rattle.reflection.specs.Reflected.{mirroredRows}
+use Rattle.reflection.specs.Inner.{fourPut, fourAlong}
+use Rattle.reflection.proofs.FourRows.{down-four}
+
+-- four rows
+pub four-turn : (a : List Float) (s : Float) (n i c0 j : ℕ) (t₀ t : List Float) → i + 4 ≤ n → t ≡ inBlock n i (i + 4) c0 (c0 + j) (mirroredRows a s n c0 t₀) t₀
+    → fourPut (s ⊗ minusTwo ⊗ (a ! j)) (fourAlong a n c0 t₀ i) s (place n i (c0 + j)) t ≡ inBlock n i (i + 4) c0 (c0 + (j + 1)) (mirroredRows a s n c0 t₀) t₀
+unfolding mirroredRows fourAlong
+four-turn a s n i c0 j t₀ t h e =
+    let k : c0 + j - c0 ≡ j = omega arith in
+    rw (
+      add-assoc ((c0 + j) * n) i 1,
+      add-assoc ((c0 + j) * n) i 2,
+      add-assoc ((c0 + j) * n) i 3,
+      ← add-assoc c0 j 1,
+    )
+    (down-four n i c0 (c0 + j) (mirroredRows a s n c0 t₀) t₀ t _ _ _ _ h (omega arith) e (rw k) (rw k) (rw k) (rw k))
+
+-- one row
+pub one-turn : (a : List Float) (s : Float) (n i c0 j : ℕ) (t₀ t : List Float) → t ≡ inBlock n i (i + 1) c0 (c0 + j) (mirroredRows a s n c0 t₀) t₀
+    → set t (place n i (c0 + j)) (s ⊗ minusTwo ⊗ (a ! j) ⊗ along a n c0 t₀ i ⊕ s ⊗ (t ! place n i (c0 + j))) ≡ inBlock n i (i + 1) c0 (c0 + (j + 1)) (mirroredRows a s n c0 t₀) t₀
+unfolding mirroredRows
+one-turn a s n i c0 j t₀ t e =
+    let k : c0 + j - c0 ≡ j = omega arith in
+    rw (← add-assoc c0 j 1)
+    (sym
+    (inBlock-column n i (i + 1) c0 (c0 + j) (mirroredRows a s n c0 t₀) t₀ (omega arith)
+    ∙ ap (range (atEntry n (mirroredRows a s n c0 t₀) (c0 + j)) i (i + 1)) (sym e)
+    ∙ range-one (atEntry n (mirroredRows a s n c0 t₀) (c0 + j)) i t
+    ∙ rw k))
+
+-- a row that is not done yet has the sum that it had
+along-kept : (a : List Float) (s : Float) (n r0 r1 c0 : ℕ) (t₀ t : List Float) (i : ℕ) → r1 ≤ i → i < n
+    → t ≡ inBlock n r0 r1 c0 (c0 + length a) (mirroredRows a s n c0 t₀) t₀ → along a n c0 t i ≡ along a n c0 t₀ i
+unfolding along
+along-kept a s n r0 r1 c0 t₀ t i h l e =
+    bare-same (length a) _ _ (λ j k. ap (λ x. x ⊗ (a ! j))
+    (ap (λ u. u ! place n i (c0 + j)) e ∙ inBlock-frame n r0 r1 c0 (c0 + length a) (mirroredRows a s n c0 t₀) t₀ i (c0 + j) (omega arith) l (λ o. omega arith)))
+
+-- the rows from r0 to r1, then those from r1 to r2 of what that leaves
+pub rows-more : (a : List Float) (s : Float) (n r0 r1 r2 c0 : ℕ) (t₀ t : List Float) → length t₀ ≡ n * n → r0 ≤ r1 → r1 ≤ r2 → r2 ≤ n → c0 + length a ≤ n
+    → t ≡ inBlock n r0 r1 c0 (c0 + length a) (mirroredRows a s n c0 t₀) t₀
+    → inBlock n r1 r2 c0 (c0 + length a) (mirroredRows a s n c0 t) t ≡ inBlock n r0 r2 c0 (c0 + length a) (mirroredRows a s n c0 t₀) t₀
+unfolding mirroredRows
+rows-more a s n r0 r1 r2 c0 t₀ t size h k l m e =
+    inBlock-same n r1 r2 c0 (c0 + length a) (mirroredRows a s n c0 t) (mirroredRows a s n c0 t₀) t
+    (λ i j x at. ap (λ w. s ⊗ minusTwo ⊗ (a ! (j - c0)) ⊗ w ⊕ s ⊗ x) (along-kept a s n r0 r1 c0 t₀ t i (omega arith) (omega arith) e))
+    ∙ ap (inBlock n r1 r2 c0 (c0 + length a) (mirroredRows a s n c0 t₀)) e
+    ∙ inBlock-rows n (mirroredRows a s n c0 t₀) t₀ size r0 r1 r2 c0 (c0 + length a) h k l m

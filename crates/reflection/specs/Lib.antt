@@ -1,0 +1,3 @@
+-- What a reflection does to the columns and to the rows of a matrix (`Reflected`). `Inner` serves the proofs of the kernels alone.
+pub mod Reflected
+pub mod Inner

@@ -1,0 +1,150 @@
+// Rows reflected, by an axis of a length known at run time: four rows at a time, so that their sums stay
+// in registers, then the rows that are left one by one. Every entry's operations are in the Rust's
+// order, and no work vector is needed.
+ghost use mathlib.Core.Path.{_≡_};
+ghost use Prim.Native.Nat.{_+_, _*_, _<_, _≤_};
+ghost use lib.ListN.{length};
+ghost use Rattle.loops.specs.Constants.{one};
+ghost use Rattle.matrix.specs.Entries.{inBlock};
+ghost use Rattle.matrix.specs.Product.{along};
+ghost use Rattle.reflection.specs.Reflected.{mirroredRows, reflectedRows};
+ghost use Rattle.reflection.specs.Inner.{fourTimes, fourPlus, fourPut, fourAlong};
+
+// The sums of four rows.
+struct Four {
+    w0: f64,
+    w1: f64,
+    w2: f64,
+    w3: f64,
+}
+
+// Where row i of column j of a matrix of order n lies: three rows are below it.
+fn four_at(n: usize, i: usize, j: usize) -> usize
+    requires { ⌜ (n ≤ 64) × (i + 4 ≤ n) × (j < n) ⌝ }
+    ensures { λ r. ⌜ (r ≡ j * n + i) × (j * n + i + 4 ≤ n * n) × (n * n ≤ 4096) ⌝ }
+{
+    j * n + i
+}
+
+// The four numbers of t from p on, times x.
+fn times_four(t: &[f64], p: usize, x: f64) -> Four
+    requires { ⌜ (p + 4 ≤ length (now t)) × (length (now t) ≤ 4096) ⌝ }
+    ensures { λ r. ⌜ r ≡ fourTimes (now (t .entry)) p x ⌝ }
+{
+    Four {
+        w0: t[p] * x,
+        w1: t[p + 1] * x,
+        w2: t[p + 2] * x,
+        w3: t[p + 3] * x,
+    }
+}
+
+// The same, added to w.
+fn plus_four(t: &[f64], p: usize, x: f64, w: Four) -> Four
+    requires { ⌜ (p + 4 ≤ length (now t)) × (length (now t) ≤ 4096) ⌝ }
+    ensures { λ r. ⌜ r ≡ fourPlus (now (t .entry)) p x w ⌝ }
+{
+    Four {
+        w0: w.w0 + t[p] * x,
+        w1: w.w1 + t[p + 1] * x,
+        w2: w.w2 + t[p + 2] * x,
+        w3: w.w3 + t[p + 3] * x,
+    }
+}
+
+// The rows from i to i + 3, in the columns from c0 on, times a.
+fn sums(a: &[f64], t: &[f64], n: usize, i: usize, c0: usize) -> Four
+    requires { ⌜ (n ≤ 64) × (length (now t) ≡ n * n) × (i + 4 ≤ n) × (c0 + length (now a) ≤ n) × (0 < length (now a)) ⌝ }
+    ensures { λ r. ⌜ r ≡ fourAlong (now (a .entry)) n c0 (now (t .entry)) i ⌝ }
+{
+    let o = four_at(n, i, c0);
+    let mut w = times_four(t, o, a[0]);
+    for j in 1..a.len() {
+        let p = four_at(n, i, c0 + j);
+        w = plus_four(t, p, a[j], w);
+    }
+    w
+}
+
+// The four numbers of t from p on: factor times the row's sum, plus sign times what stands.
+fn put_four(t: &mut [f64], p: usize, factor: f64, w: Four, sign: f64)
+    requires { ⌜ (p + 4 ≤ length (now t)) × (length (now t) ≤ 4096) ⌝ }
+    ensures { λ _. ⌜ now (t .exit) ≡ fourPut factor w sign p (now (t .entry)) ⌝ }
+{
+    let e0 = t[p];
+    let e1 = t[p + 1];
+    let e2 = t[p + 2];
+    let e3 = t[p + 3];
+    t[p] = factor * w.w0 + sign * e0;
+    t[p + 1] = factor * w.w1 + sign * e1;
+    t[p + 2] = factor * w.w2 + sign * e2;
+    t[p + 3] = factor * w.w3 + sign * e3;
+}
+
+// The rows from i to i + 3.
+fn four_rows(a: &[f64], t: &mut [f64], n: usize, i: usize, c0: usize, sign: f64)
+    requires { ⌜ (n ≤ 64) × (length (now t) ≡ n * n) × (i + 4 ≤ n) × (c0 + length (now a) ≤ n) × (0 < length (now a)) ⌝ }
+    ensures { λ _.
+        ⌜ now (t .exit) ≡ inBlock n i (i + 4) c0 (c0 + length (now (a .entry))) (mirroredRows (now (a .entry)) sign n c0 (now (t .entry))) (now (t .entry)) ⌝ }
+{
+    let w = sums(a, t, n, i, c0);
+    let m_two = sign * -2.0;
+    for j in 0..a.len() {
+        let p = four_at(n, i, c0 + j);
+        put_four(t, p, m_two * a[j], w, sign);
+    }
+}
+
+// Row i, in the columns from c0 on, times a.
+fn sum(a: &[f64], t: &[f64], n: usize, i: usize, c0: usize) -> f64
+    requires { ⌜ (n ≤ 64) × (length (now t) ≡ n * n) × (i < n) × (c0 + length (now a) ≤ n) × (0 < length (now a)) ⌝ }
+    ensures { λ r. ⌜ r ≡ along (now (a .entry)) n c0 (now (t .entry)) i ⌝ }
+{
+    let o = crate::place::at(n, i, c0);
+    let mut w = t[o] * a[0];
+    for j in 1..a.len() {
+        let p = crate::place::at(n, i, c0 + j);
+        w = w + t[p] * a[j];
+    }
+    w
+}
+
+// Row i.
+fn one_row(a: &[f64], t: &mut [f64], n: usize, i: usize, c0: usize, sign: f64)
+    requires { ⌜ (n ≤ 64) × (length (now t) ≡ n * n) × (i < n) × (c0 + length (now a) ≤ n) × (0 < length (now a)) ⌝ }
+    ensures { λ _.
+        ⌜ now (t .exit) ≡ inBlock n i (i + 1) c0 (c0 + length (now (a .entry))) (mirroredRows (now (a .entry)) sign n c0 (now (t .entry))) (now (t .entry)) ⌝ }
+{
+    let w = sum(a, t, n, i, c0);
+    let m_two = sign * -2.0;
+    for j in 0..a.len() {
+        let p = crate::place::at(n, i, c0 + j);
+        t[p] = m_two * a[j] * w + sign * t[p];
+    }
+}
+
+// The first `rows` rows of the matrix t of order n, in the columns from c0 on, as many as a is long.
+// Nothing is done where these do not lie in the matrix.
+pub fn reflect_rows_with_sign(a: &[f64], t: &mut [f64], n: usize, rows: usize, c0: usize, sign: f64)
+    ensures { λ _. ⌜ now (t .exit) ≡ reflectedRows (now (a .entry)) sign n rows c0 (now (t .entry)) ⌝ }
+{
+    if !matrix::block_fits(n, t.len(), 0, rows, c0, a.len()) {
+        return;
+    }
+    if a.len() == 0 {
+        return;
+    }
+    let blocks = rows / 4;
+    for b in 0..blocks {
+        four_rows(a, t, n, b * 4, c0, sign);
+    }
+    for i in blocks * 4..rows {
+        one_row(a, t, n, i, c0, sign);
+    }
+}
+
+pub fn reflect_rows(a: &[f64], t: &mut [f64], n: usize, rows: usize, c0: usize)
+    ensures { λ _. ⌜ now (t .exit) ≡ reflectedRows (now (a .entry)) one n rows c0 (now (t .entry)) ⌝ }
+{
+    reflect_rows_with_sign(a, t, n, rows, c0, 1.0);
+}
