@@ -2,3 +2,4 @@
 pub mod Ways
 mod Diagonal
 mod Empty
+mod Copied

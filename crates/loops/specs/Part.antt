@@ -4,7 +4,7 @@ use mathlib.Core.List.{List, _++_}
 use Prim.Native.Nat.{ℕ, _+_, _-_, _≤_, _<_}
 use native.Mathlib.Omega.{arith}
 use lib.ListN.{length, getD, take, drop, length-append, length-take, length-drop, List·getD-append}
-use lib.Seq.{getD-append-add, getD-take, getD-drop}
+use lib.Seq.{getD-append-add, getD-take, getD-drop, take-at, drop-at}
 
 abbrev pub part : {A : Type 0} → ℕ → ℕ → List A → List A
 part a e t = take (e - a) (drop a t)
@@ -22,6 +22,12 @@ part-at a e t i d h = getD-take (e - a) (drop a t) i d h ∙ getD-drop a t i d
 pub onPart-length : {A : Type 0} (f : List A → List A) (a e : ℕ) (t : List A) → a ≤ e → e ≤ length t → ((s : List A) → length (f s) ≡ length s) → length (onPart f a e t) ≡ length t
 unfolding onPart
 onPart-length f a e t h k keep = simp (length-append, keep, length-take, length-drop) (omega arith)
+
+-- the part that was rewritten, taken out again
+pub onPart-part : {A : Type 0} (f : List A → List A) (a e : ℕ) (t : List A) → a ≤ e → e ≤ length t → length (f (part a e t)) ≡ e - a → part a e (onPart f a e t) ≡ f (part a e t)
+unfolding onPart
+onPart-part f a e t h k m =
+    rw (drop-at (take a t) (f (part a e t) ++ drop (e - a) (drop a t)) a (simp length-take (omega arith))) (take-at (f (part a e t)) (drop (e - a) (drop a t)) (e - a) m)
 
 -- ---- the places before the part, in it and after it
 

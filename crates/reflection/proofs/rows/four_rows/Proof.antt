@@ -24,7 +24,12 @@ loop-holds c = (omega arith, omega arith, omega arith, rw add-zero (sym (inBlock
 loop-again : tie.Need-loop-again Inv-loop μ-loop
 loop-again c =
     let inv = c .before .before .before .before .before .before .before .loop .inv in
-    (inv .0, omega arith, omega arith, rw (c .before .before .put-four .ensures, c .before .before .before .before .before .four-at .ensures .0, c .before .before .before .before .before .before .before .before .sums .ensures) (four-turn _ _ _ _ _ _ _ _ (omega arith) (inv .3)))
+    let sums = c .before .before .before .before .before .before .before .before .sums in (
+      inv .0,
+      omega arith,
+      omega arith,
+      rw (c .before .before .put-four .ensures, c .before .before .before .before .before .four-at .ensures .0, sums .ensures) (four-turn _ _ _ _ _ _ _ _ (omega arith) (inv .3)),
+    )
 
 returns : tie.Need-returns Inv-loop μ-loop
 returns c = c .before .loop .inv .3 ∙ inBlock-columns-done _ _ _ _ _ _ _ _ (omega arith) (omega arith) (omega arith)

@@ -1,0 +1,91 @@
+-- `householder::clear::clear_column` meets its contract. Assumes nothing.
+use mathlib.Core.Path.{_≡_, ap, _∙_}
+use Prim.Native.Nat.{_+_, _*_, _-_}
+use native.Mathlib.Omega.{arith}
+use borrow.Author.Needs.{needs}
+use borrow.Author.Tests.{le-leb, lt-leb, not-true, not-false}
+use lib.ListN.{length}
+use Rattle.loops.specs.Place.{place, Column, column}
+use Rattle.loops.specs.Part.{onPart, part-length, onPart-part}
+use Rattle.matrix.specs.Sum.{lanes}
+use Rattle.matrix.proofs.Fitting.{Fits, within, inside, outside}
+use Rattle.householder.specs.Axis.{Told, axisOf}
+use Rattle.householder.specs.Cleared.{belowRow, clearedBy, clearOf}
+use Rattle.householder.proofs.Ways.{axis-length}
+use Rattle.householder.proofs.clear.clear_column.Statement.{statement}
+use Rattle.householder.proofs.clear.clear_column.Tie as tie
+
+fitted : (c : tie.Else1) → let x = c .before .before .before .before .args in Fits (x .n) (length (x .t .now)) (x .icol + 2) (x .icol + 2)
+fitted c = within _ _ _ _ (c .before .block-fits .ensures) (c .if1 .left)
+
+bounds : (c : tie.Else2) → let x = c .before .before .before .before .before .args in Column (x .n) (x .icol)
+bounds c = let f = fitted (c .before) in column _ _ (omega arith) (omega arith)
+
+-- after the tests
+passed : (c : tie.Else2) → let x = c .before .before .before .before .before .args in
+    clearOf (x .n) (x .icol) (x .t .now) (x .work .now) ≡ clearedBy (x .n) (x .icol) (axisOf lanes (belowRow (x .n) (x .icol) (x .t .now))) (x .t .now) (x .work .now)
+unfolding clearOf
+passed c = rw (inside (c .before .before .block-fits .ensures) (c .before .if1 .left), le-leb _ _ (c .if2 .left))
+
+returns : tie.Need-returns
+unfolding clearOf
+returns c = rw (outside (c .before .before .block-fits .ensures) (c .before .if1 .taken), c .not-a-number .ensures)
+
+returns-2 : tie.Need-returns-2
+unfolding clearOf
+returns-2 c = rw (inside (c .before .before .before .block-fits .ensures) (c .before .before .if1 .left), lt-leb _ _ (c .before .if2 .taken), c .not-a-number2 .ensures)
+
+returns-3 : tie.Need-returns-3
+unfolding clearedBy onPart
+returns-3 c = rw (passed (c .before .before .before .before .before .before), ← c .before .before .before .before .reflection-axis-mut .ensures, not-true (c .before .before .before .before .reflection-axis-mut .result .reflected) (c .if3 .taken))
+
+-- what stands in the column after the axis routine is the axis
+rewritten : (c : tie.After-reflection-axis-mut) → let x = c .before .before .before .before .before .before .before .args in let ys = c .reflection-axis-mut .last .0 in
+    belowRow (x .n) (x .icol) (onPart (λ _. ys) (place (x .n) (x .icol + 1) (x .icol)) (place (x .n) (x .n) (x .icol)) (x .t .now)) ≡ ys
+rewritten c =
+    let x = c .before .before .before .before .before .before .before .args in
+    let f = fitted (c .before .before .before) in
+    let b = bounds (c .before .before) in
+    let a = place (x .n) (x .icol + 1) (x .icol) in
+    let e = place (x .n) (x .n) (x .icol) in
+    onPart-part (λ _. c .reflection-axis-mut .last .0) a e (x .t .now) (omega arith) (omega arith) (c .reflection-axis-mut .kept .0 ∙ part-length a e (x .t .now) (omega arith) (omega arith))
+
+returns-4 : tie.Need-returns-4
+unfolding clearedBy onPart
+returns-4 c =
+    rw (
+      c .before .before .before .before .reflect-both-sides .ensures .0,
+      c .before .before .before .before .reflect-both-sides .ensures .1,
+      c .before .before .before .before .before .signum .ensures,
+      passed (c .before .before .before .before .before .before .before .before .before .before .before .before .before .before),
+      ← c .before .before .before .before .before .before .before .before .before .before .before .before .reflection-axis-mut .ensures,
+      not-false (c .before .before .before .before .before .before .before .before .before .before .before .before .reflection-axis-mut .result .reflected) (c .before .before .before .before .before .before .before .before .if3 .left),
+      rewritten (c .before .before .before .before .before .before .before .before .before .before .before .before),
+    )
+
+pub clear-column-spec : {M : Type 1} → statement M
+clear-column-spec =
+    tie.close
+    (tie.spec
+    (λ c κs. search needs)
+    (λ c κs. search needs)
+    returns
+    (λ c κs. search needs)
+    returns-2
+    (λ c. omega (arith, bounds c, fitted (c .before)))
+    (λ c. omega (arith, bounds c, fitted (c .before)))
+    (λ c. omega (arith, bounds c, fitted (c .before)))
+    (λ c. omega (arith, bounds c, fitted (c .before)))
+    (λ c. omega (arith, bounds c, fitted (c .before)))
+    (λ c. omega (arith, bounds c, fitted (c .before)))
+    (λ c. omega (arith, bounds c, fitted (c .before)))
+    (λ c. omega (arith, bounds c, fitted (c .before)))
+    (λ c. omega (arith, bounds c, fitted (c .before)))
+    (λ c κs. search needs)
+    (λ c. search needs)
+    returns-3
+    (λ c κs. search needs)
+    (λ c κs. omega (arith, fitted (c .before .before .before .before .before .before .before .before .before .before)))
+    (λ c. search needs)
+    (λ c. search needs)
+    returns-4)
