@@ -1,21 +1,30 @@
-//! Links the static library that `rt staticlib door` writes.
+//! Links the static libraries that `rt staticlib` writes.
 
 use std::path::Path;
 use std::process::exit;
 
 /// Seen from this package's folder, where cargo runs both this script and the compiler. A full path
-/// would be kept in oracle/target, and a copy of the repository would link the first one's library.
+/// would be kept in oracle/target, and a copy of the repository would link the first one's libraries.
 const FOLDER: &str = "../target/staticlib";
 
+/// The Rattle crates of these names.
+const LIBRARIES: [&str; 2] = ["door", "leaf_door"];
+
 fn main() {
-    let archive = Path::new(FOLDER).join("libdoor.a");
-    // Without this line cargo would keep the program that was linked with an older archive.
-    println!("cargo:rerun-if-changed={}", archive.display());
-    if !archive.is_file() {
-        eprintln!("{} (seen from oracle/) is not there.", archive.display());
-        eprintln!("Run `rt staticlib door` in the repository's root, or use `oracle/run`.");
+    println!("cargo:rustc-link-search=native={FOLDER}");
+    let mut missing = false;
+    for name in LIBRARIES {
+        let archive = Path::new(FOLDER).join(format!("lib{name}.a"));
+        // Without this line cargo would keep the program that was linked with an older archive.
+        println!("cargo:rerun-if-changed={}", archive.display());
+        println!("cargo:rustc-link-lib=static={name}");
+        if !archive.is_file() {
+            eprintln!("{} (seen from oracle/) is not there.", archive.display());
+            eprintln!("Run `rt staticlib {name}` in the repository's root, or use `oracle/run`.");
+            missing = true;
+        }
+    }
+    if missing {
         exit(1);
     }
-    println!("cargo:rustc-link-search=native={FOLDER}");
-    println!("cargo:rustc-link-lib=static=door");
 }

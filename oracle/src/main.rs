@@ -3,6 +3,7 @@
 //! `oracle/run COMMAND` builds what is needed and runs one command of the table below. The exit
 //! status is 0 if the two agree, 1 if a difference was found, 2 if the command could not be run.
 
+mod bench;
 mod crate_side;
 mod door;
 mod random;
@@ -18,6 +19,11 @@ type Run = fn(&[String]) -> Result<usize, String>;
 
 /// Each command with its arguments. README.md says what it does.
 const COMMANDS: &[(&str, &str, Run)] = &[
+    (
+        "bench",
+        "[--count THOUSANDS] [--seed HEX] [--repeat TIMES]",
+        bench::run,
+    ),
     ("root", "[--count MILLIONS] [--seed HEX]", root::run),
     ("scalar", "[--write]", scalar::run),
     ("sums", "", sums::run),

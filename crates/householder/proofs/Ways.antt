@@ -37,7 +37,8 @@ pub axis-none : (sum : Order) (c : List Float) (sq norm : Float) (e : Exp) → l
     → told (set c 0 ((c ! 0) ⊕ e .sign ⊗ norm)) (e .sign ⊗ norm) false ≡ axisOf sum c
 unfolding axisOf wayOf factorOf signedNorm shifted normOf
 axis-none sum c sq norm e h a b d z =
-    let way : wayOf sum c ≡ cond (allZero c) AllZero TooSmall = rw (← a, ← b, ← d, z) in
+    let zero-factor : isZero (factorOf sum c) ≡ true = rw (← a, ← b, ← d) z in
+    let way : wayOf sum c ≡ cond (allZero c) AllZero TooSmall = ap (λ b. cond b (cond (allZero c) AllZero TooSmall) Reflected) zero-factor in
     let here : axisOf sum c ≡ inWay sum c (wayOf sum c) = rw (ne-eqb _ _ h) in
     let left : told (shifted sum c) (signedNorm sum c) false ≡ told (set c 0 ((c ! 0) ⊕ e .sign ⊗ norm)) (e .sign ⊗ norm) false = rw (← a, ← b, ← d) in
     sym (here ∙ ap (inWay sum c) way ∙ alike sum c (allZero c) ∙ left)
@@ -48,7 +49,8 @@ pub axis-made : (sum : Order) (c : List Float) (sq norm : Float) (e : Exp) → l
     → told (normalized sum (unscaled (rootOf ((sq ⊕ e .magnitude ⊗ norm) ⊗ two)) (set c 0 ((c ! 0) ⊕ e .sign ⊗ norm)))) (neg (e .sign ⊗ norm)) true ≡ axisOf sum c
 unfolding axisOf wayOf inWay factorOf signedNorm shifted normOf
 axis-made sum c sq norm e h a b d z =
-    let way : wayOf sum c ≡ Reflected = rw (← a, ← b, ← d, z) in
+    let some-factor : isZero (factorOf sum c) ≡ false = rw (← a, ← b, ← d) z in
+    let way : wayOf sum c ≡ Reflected = ap (λ b. cond b (cond (allZero c) AllZero TooSmall) Reflected) some-factor in
     let here : axisOf sum c ≡ inWay sum c (wayOf sum c) = rw (ne-eqb _ _ h) in
     let made : inWay sum c Reflected ≡ told (normalized sum (unscaled (rootOf ((sq ⊕ e .magnitude ⊗ norm) ⊗ two)) (set c 0 ((c ! 0) ⊕ e .sign ⊗ norm)))) (neg (e .sign ⊗ norm)) true = rw (← a, ← b, ← d) in
     sym (here ∙ ap (inWay sum c) way ∙ made)

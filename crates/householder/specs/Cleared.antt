@@ -13,7 +13,7 @@ use Rattle.matrix.specs.Sum.{lanes}
 use Rattle.matrix.specs.Vectors.{eachTo}
 use Rattle.matrix.specs.Fits.{blockFits}
 use Rattle.reflection.specs.Reflected.{reflected, reflectedRows}
-use Rattle.householder.specs.Axis.{Told, axisOf}
+use Rattle.householder.specs.Axis.{axisOf}
 
 -- the column below row k: that part alone is lent to the axis routine, and rewritten
 abbrev pub belowRow : ℕ → ℕ → List Float → List Float
@@ -37,12 +37,12 @@ unfoldable pub bothSides : ℕ → ℕ → List Float → Float → List Float �
 bothSides n k a s t = reflected lanes a s n (k + 1) (k + 1) n (reflectedRows a s n n (k + 1) t)
 
 -- The axis is made in its column. Where there is a reflection it is copied into the workspace and used there.
-unfoldable pub clearedBy : ℕ → ℕ → Told → List Float → List Float → Cleared
-clearedBy n k r t w =
-    let t' = onPart (λ _. r .axis) (place n (k + 1) k) (place n n k) t in
+unfoldable pub clearedHere : ℕ → ℕ → List Float → List Float → Cleared
+clearedHere n k t w =
+    let r = axisOf lanes (belowRow n k t) in
+    let t' = onPart (λ c. axisOf lanes c .axis) (place n (k + 1) k) (place n n k) t in
     cleared (r .norm) (cond (r .reflected) (bothSides n k (r .axis) (signumOf (r .norm)) t') t') (cond (r .reflected) (copied (r .axis) w) w)
 
 -- nothing is done, and the answer is NaN, where there is no row below row k, or the workspace is shorter than n
 unfoldable pub clearOf : ℕ → ℕ → List Float → List Float → Cleared
-clearOf n k t w =
-    cond (blockFits n (length t) (k + 2) (k + 2) && leb n (length w)) (clearedBy n k (axisOf lanes (belowRow n k t)) t w) (cleared nan t w)
+clearOf n k t w = cond (blockFits n (length t) (k + 2) (k + 2) && leb n (length w)) (clearedHere n k t w) (cleared nan t w)

@@ -10,7 +10,7 @@ use Rattle.loops.specs.Part.{onPart, part-length, onPart-part}
 use Rattle.matrix.specs.Sum.{lanes}
 use Rattle.matrix.proofs.Fitting.{Fits, within, inside, outside}
 use Rattle.householder.specs.Axis.{Told, axisOf}
-use Rattle.householder.specs.Cleared.{belowRow, clearedBy, clearOf}
+use Rattle.householder.specs.Cleared.{belowRow, clearedHere, clearOf}
 use Rattle.householder.proofs.Ways.{axis-length}
 use Rattle.householder.proofs.clear.clear_column.Statement.{statement}
 use Rattle.householder.proofs.clear.clear_column.Tie as tie
@@ -23,7 +23,7 @@ bounds c = let f = fitted (c .before) in column _ _ (omega arith) (omega arith)
 
 -- after the tests
 passed : (c : tie.Else2) → let x = c .before .before .before .before .before .args in
-    clearOf (x .n) (x .icol) (x .t .now) (x .work .now) ≡ clearedBy (x .n) (x .icol) (axisOf lanes (belowRow (x .n) (x .icol) (x .t .now))) (x .t .now) (x .work .now)
+    clearOf (x .n) (x .icol) (x .t .now) (x .work .now) ≡ clearedHere (x .n) (x .icol) (x .t .now) (x .work .now)
 unfolding clearOf
 passed c = rw (inside (c .before .before .block-fits .ensures) (c .before .if1 .left), le-leb _ _ (c .if2 .left))
 
@@ -36,7 +36,7 @@ unfolding clearOf
 returns-2 c = rw (inside (c .before .before .before .block-fits .ensures) (c .before .before .if1 .left), lt-leb _ _ (c .before .if2 .taken), c .not-a-number2 .ensures)
 
 returns-3 : tie.Need-returns-3
-unfolding clearedBy onPart
+unfolding clearedHere onPart
 returns-3 c = rw (passed (c .before .before .before .before .before .before), ← c .before .before .before .before .reflection-axis-mut .ensures, not-true (c .before .before .before .before .reflection-axis-mut .result .reflected) (c .if3 .taken))
 
 -- what stands in the column after the axis routine is the axis
@@ -51,7 +51,7 @@ rewritten c =
     onPart-part (λ _. c .reflection-axis-mut .last .0) a e (x .t .now) (omega arith) (omega arith) (c .reflection-axis-mut .kept .0 ∙ part-length a e (x .t .now) (omega arith) (omega arith))
 
 returns-4 : tie.Need-returns-4
-unfolding clearedBy onPart
+unfolding clearedHere onPart
 returns-4 c =
     rw (
       c .before .before .before .before .reflect-both-sides .ensures .0,
