@@ -47,6 +47,8 @@ pub fn passes(order: usize, entries: &[f64], tolerance: f64, limit: usize) -> Op
 mod tests {
     use super::*;
     use crate::random::Random;
+    use nalgebra::linalg::givens::GivensRotation;
+    use nalgebra::{DVector, Reflection, Unit};
 
     const TOLERANCE: f64 = f64::EPSILON;
     /// The block with rows (0 -1), (1 0).
@@ -185,6 +187,30 @@ mod tests {
         let large = rows([[5e299, -1e300, 0.0], [1e300, -5e299, 0.0], [0.0; 3]]);
         let pair = Schur::new(large).complex_eigenvalues();
         assert!(pair[0].im.is_nan());
+    }
+
+    /// The inputs of docs/DIFFERENCES.md on which a kernel of ours does nothing, or something else.
+    #[test]
+    fn leaves_where_we_differ() {
+        let column = |entries: &[f64]| DVector::from_column_slice(entries);
+        let panics = |run: fn()| std::panic::catch_unwind(run).is_err();
+        assert!(panics(|| {
+            let (one, two) = (DVector::from_element(1, 1.0), DVector::from_element(2, 1.0));
+            let _: f64 = one.dotc(&two);
+        }));
+        assert!(panics(|| {
+            let mut matrix: DMatrix<f64> = DMatrix::zeros(4, 4);
+            GivensRotation::identity().rotate(&mut matrix.rows_mut(3, 2));
+        }));
+        let mut large: DMatrix<f64> = DMatrix::from_element(65, 65, 1.0);
+        GivensRotation::new(3.0, 4.0).0.rotate(&mut large.rows_mut(0, 2));
+        assert_ne!(large[(0, 0)], 1.0);
+        // With the sign 0 the old entries are not read, and no +0 is added to -0.
+        let mut matrix: DMatrix<f64> = DMatrix::from_column_slice(2, 1, &[1.0, 2.0]);
+        let axis = Unit::new_unchecked(column(&[1.0, 0.0]));
+        Reflection::new(axis, 0.0).reflect_with_sign(&mut matrix, 0.0);
+        assert_eq!(bits(matrix.as_slice()), bits(&[-0.0, -0.0]));
+        assert_eq!(DMatrix::<f64>::zeros(0, 0).camax(), 0.0);
     }
 
     #[test]

@@ -9,17 +9,17 @@ use Rattle.matrix.proofs.block.block_fits.Tie as tie
 
 returns : tie.Need-returns
 unfolding blockFits
-returns c = rw (lt-leb _ _ (c .if1 .taken))
+returns c = rw (lt-leb (c .before .args .n) 64 (omega arith))
 
 returns-2 : tie.Need-returns-2
 unfolding blockFits
-returns-2 c = rw (le-leb _ _ (c .before .if1 .left), ne-eqb _ _ (c .if2 .taken))
+returns-2 c = rw (le-leb (c .before .before .args .n) 64 (omega arith), ne-eqb _ _ (c .if2 .taken))
 
 returns-3 : tie.Need-returns-3
 unfolding blockFits
 returns-3 c =
     rw (
-      le-leb _ _ (c .before .before .before .if1 .left),
+      le-leb (c .before .before .before .before .args .n) 64 (omega arith),
       eq-eqb _ _ (c .before .before .if2 .left),
       ← c .before .span-fits .ensures,
       not-true (c .before .span-fits .result) (c .if3 .taken),
@@ -29,7 +29,7 @@ returns-4 : tie.Need-returns-4
 unfolding blockFits
 returns-4 c =
     rw (
-      le-leb _ _ (c .before .before .before .before .if1 .left),
+      le-leb (c .before .before .before .before .before .args .n) 64 (omega arith),
       eq-eqb _ _ (c .before .before .before .if2 .left),
       ← c .before .before .span-fits .ensures,
       not-false (c .before .before .span-fits .result) (c .before .if3 .left),
