@@ -45,7 +45,14 @@ pub extern "C" fn manulsek_leaf_reflect(
 }
 
 #[no_mangle]
-pub extern "C" fn manulsek_leaf_reflect_rows(a: &[f64], t: &mut [f64], n: usize, rows: usize, c0: usize, sign: f64)
+pub extern "C" fn manulsek_leaf_reflect_rows(
+    a: &[f64],
+    t: &mut [f64],
+    n: usize,
+    rows: usize,
+    c0: usize,
+    sign: f64,
+)
     ensures { λ _. ⌜ now (t .exit) ≡ reflectedRows (now (a .entry)) sign n rows c0 (now (t .entry)) ⌝ }
 {
     reflection::reflect_rows_with_sign(a, t, n, rows, c0, sign);
@@ -68,28 +75,56 @@ pub extern "C" fn manulsek_leaf_reflect3(
 }
 
 #[no_mangle]
-pub extern "C" fn manulsek_leaf_reflect_rows3(x: f64, y: f64, z: f64, t: &mut [f64], n: usize, rows: usize, c0: usize)
+pub extern "C" fn manulsek_leaf_reflect_rows3(
+    x: f64,
+    y: f64,
+    z: f64,
+    t: &mut [f64],
+    n: usize,
+    rows: usize,
+    c0: usize,
+)
     ensures { λ _. ⌜ now (t .exit) ≡ reflectedRows (three (record { x = x; y = y; z = z })) one n rows c0 (now (t .entry)) ⌝ }
 {
     reflection::reflect_rows3(Vector3 { x, y, z }, t, n, rows, c0);
 }
 
 #[no_mangle]
-pub extern "C" fn manulsek_leaf_rotate(c: f64, s: f64, t: &mut [f64], n: usize, i: usize, c0: usize, c1: usize)
+pub extern "C" fn manulsek_leaf_rotate(
+    c: f64,
+    s: f64,
+    t: &mut [f64],
+    n: usize,
+    i: usize,
+    c0: usize,
+    c1: usize,
+)
     ensures { λ _. ⌜ now (t .exit) ≡ rotated (rotation c s) n i c0 c1 (now (t .entry)) ⌝ }
 {
     Rotation { c, s }.rotate(t, n, i, c0, c1);
 }
 
 #[no_mangle]
-pub extern "C" fn manulsek_leaf_rotate_rows(c: f64, s: f64, t: &mut [f64], n: usize, k: usize, rows: usize)
+pub extern "C" fn manulsek_leaf_rotate_rows(
+    c: f64,
+    s: f64,
+    t: &mut [f64],
+    n: usize,
+    k: usize,
+    rows: usize,
+)
     ensures { λ _. ⌜ now (t .exit) ≡ rotatedRows (rotation c s) n k rows (now (t .entry)) ⌝ }
 {
     Rotation { c, s }.rotate_rows(t, n, k, rows);
 }
 
 #[no_mangle]
-pub extern "C" fn manulsek_leaf_clear_column(t: &mut [f64], n: usize, icol: usize, work: &mut [f64]) -> f64
+pub extern "C" fn manulsek_leaf_clear_column(
+    t: &mut [f64],
+    n: usize,
+    icol: usize,
+    work: &mut [f64],
+) -> f64
     ensures { λ r. ⌜ cleared r (now (t .exit)) (now (work .exit)) ≡ clearOf n icol (now (t .entry)) (now (work .entry)) ⌝ }
 {
     householder::clear_column(t, n, icol, work)

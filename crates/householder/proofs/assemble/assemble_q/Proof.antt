@@ -94,8 +94,7 @@ assemble-q-spec =
     returns-4
     (λ c κs. omega (arith, fitted-q (c .before .before .before)))
     loop-holds
-    (λ c. omega arith)
-    (λ c. omega arith)
+    (λ c. omega arith) (λ c. omega arith)
     (λ c. omega (arith, bounds c))
     (λ c. omega (arith, bounds c))
     (λ c. omega (arith, bounds c))
@@ -104,11 +103,7 @@ assemble-q-spec =
     (λ c. omega (arith, bounds c))
     (λ c. omega (arith, bounds c))
     (λ c. omega (arith, bounds c))
-    (λ c. omega arith)
-    (λ c. omega arith)
-    (λ c κs. omega arith)
-    (λ c κs. omega arith)
-    (λ c. omega arith)
+    (λ c. omega arith) (λ c. omega arith) (λ c κs. omega arith) (λ c κs. omega arith) (λ c. omega arith)
     loop-again
     (λ c. omega (arith, fitted-q (c .before .before .before .before .before .before .before .before)))
     returns-5)

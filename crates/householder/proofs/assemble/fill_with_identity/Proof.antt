@@ -40,8 +40,7 @@ fill-with-identity-spec =
     (λ c. omega (arith, spot c))
     (λ c. omega (arith, spot c))
     (λ c. omega (arith, spot c))
-    (λ c. omega arith)
-    (λ c. omega arith)
+    (λ c. omega arith) (λ c. omega arith)
     loop-again
     (λ c. omega arith)
     returns)

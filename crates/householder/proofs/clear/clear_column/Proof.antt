@@ -67,8 +67,7 @@ pub clear-column-spec : {M : Type 1} → statement M
 clear-column-spec =
     tie.close
     (tie.spec
-    (λ c κs. search needs)
-    (λ c κs. search needs)
+    (λ c κs. search needs) (λ c κs. search needs)
     returns
     (λ c κs. search needs)
     returns-2
@@ -81,11 +80,9 @@ clear-column-spec =
     (λ c. omega (arith, bounds c, fitted (c .before)))
     (λ c. omega (arith, bounds c, fitted (c .before)))
     (λ c. omega (arith, bounds c, fitted (c .before)))
-    (λ c κs. search needs)
-    (λ c. search needs)
+    (λ c κs. search needs) (λ c. search needs)
     returns-3
     (λ c κs. search needs)
     (λ c κs. omega (arith, fitted (c .before .before .before .before .before .before .before .before .before .before)))
-    (λ c. search needs)
-    (λ c. search needs)
+    (λ c. search needs) (λ c. search needs)
     returns-4)

@@ -32,12 +32,7 @@ copy-from-spec =
     Inv-loop
     μ-loop
     (λ c. (omega arith, omega arith, omega arith, omega arith, sym (eachTo-none _ _)))
-    (λ c. omega arith)
-    (λ c. omega arith)
-    (λ c. omega arith)
-    (λ c. omega arith)
-    (λ c. omega arith)
-    (λ c. omega arith)
+    (λ c. omega arith) (λ c. omega arith) (λ c. omega arith) (λ c. omega arith) (λ c. omega arith) (λ c. omega arith)
     loop-again
     (λ c. omega arith)
     returns)

@@ -47,7 +47,5 @@ reflect-both-sides-spec =
     (λ c. omega (arith, bounds (c .before .before .before .before .before .before .before .before .before .before .before .before .before .before)))
     (λ c. omega (arith, bounds (c .before .before .before .before .before .before .before .before .before .before .before .before .before .before .before)))
     (λ c. omega (arith, bounds (c .before .before .before .before .before .before .before .before .before .before .before .before .before .before .before)))
-    (λ c κs. omega arith)
-    (λ c. omega arith)
-    (λ c. omega arith)
+    (λ c κs. omega arith) (λ c. omega arith) (λ c. omega arith)
     returns)

@@ -19,8 +19,7 @@ pub entry-spec : {M : Type 1} → statement M
 entry-spec =
     tie.close
     (tie.spec
-    (λ c κs. search needs)
-    (λ c κs. search needs)
+    (λ c κs. search needs) (λ c κs. search needs)
     returns
     (λ c. omega (arith, spot _ _ _ _ (c .before .block-fits .ensures) (c .if1 .left)))
     (λ c. omega (arith, spot _ _ _ _ (c .before .block-fits .ensures) (c .if1 .left)))

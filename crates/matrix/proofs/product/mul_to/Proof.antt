@@ -141,8 +141,7 @@ mul-to-spec =
     (λ c κs. search needs)
     returns
     returns-2
-    (λ c κs. omega arith)
-    (λ c. omega arith)
+    (λ c κs. omega arith) (λ c. omega arith)
     returns-3
     (λ c. omega (arith, bounds (c .before)))
     (λ c. omega arith)
@@ -150,11 +149,9 @@ mul-to-spec =
     loop-holds
     (λ c. omega arith)
     (λ c. omega (arith, turn (c .before)))
-    (λ c. omega arith)
-    (λ c. omega arith)
+    (λ c. omega arith) (λ c. omega arith)
     (λ c κs. omega (arith, turn (c .before .before)))
-    (λ c. omega arith)
-    (λ c. omega arith)
+    (λ c. omega arith) (λ c. omega arith)
     loop-again
     (λ c. omega arith)
     returns-4)

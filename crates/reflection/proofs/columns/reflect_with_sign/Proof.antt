@@ -68,8 +68,7 @@ reflect-with-sign-spec =
     (λ c. omega (arith, turn (c .before)))
     (λ c κs. omega (arith, turn (c .before .before)))
     (λ c κs. omega (arith, turn (c .before .before .before .before)))
-    (λ c. omega arith)
-    (λ c. omega arith)
+    (λ c. omega arith) (λ c. omega arith)
     loop-again
     (λ c. omega arith)
     returns-2)

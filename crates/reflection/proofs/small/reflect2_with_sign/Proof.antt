@@ -54,19 +54,8 @@ reflect2-with-sign-spec =
     (λ c κs. omega arith)
     returns
     loop-holds
-    (λ c κs. omega arith)
-    (λ c. omega arith)
-    (λ c κs. omega arith)
-    (λ c. omega arith)
-    (λ c. omega arith)
-    (λ c. omega arith)
-    (λ c. omega arith)
-    (λ c. omega arith)
-    (λ c. omega arith)
-    (λ c. omega arith)
-    (λ c. simp length-set (omega arith))
-    (λ c. omega arith)
-    (λ c. omega arith)
+    (λ c κs. omega arith) (λ c. omega arith) (λ c κs. omega arith) (λ c. omega arith) (λ c. omega arith) (λ c. omega arith) (λ c. omega arith)
+    (λ c. omega arith) (λ c. omega arith) (λ c. omega arith) (λ c. simp length-set (omega arith)) (λ c. omega arith) (λ c. omega arith)
     loop-again
     (λ c. omega arith)
     returns-2)

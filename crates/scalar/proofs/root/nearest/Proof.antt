@@ -31,9 +31,7 @@ pub nearest-spec : {M : Type 1} → statement M
 nearest-spec =
     tie.close
     (tie.spec
-    (λ c. search needs)
-    (λ c κs. search needs)
-    (λ c κs. search needs)
+    (λ c. search needs) (λ c κs. search needs) (λ c κs. search needs)
     gap-requires
     (λ c. search needs)
     returns

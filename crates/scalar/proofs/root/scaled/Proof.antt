@@ -17,12 +17,7 @@ pub scaled-spec : {M : Type 1} → statement M
 scaled-spec =
     tie.close
     (tie.spec
-    (λ c κs. search needs)
-    (λ c. search needs)
-    (λ c. search needs)
-    (λ c. search needs)
-    (λ c. search needs)
-    (λ c. search needs)
+    (λ c κs. search needs) (λ c. search needs) (λ c. search needs) (λ c. search needs) (λ c. search needs) (λ c. search needs)
     mul-t9
     (λ c. search needs)
     returns-2)
