@@ -17,8 +17,7 @@ fn plus(x: &[f64], y: &[f64], i: usize, acc: f64) -> f64
 pub fn dot(x: &[f64], y: &[f64]) -> f64
     ensures { λ r. ⌜ r ≡ dotOf (now (x .entry)) (now (y .entry)) ⌝ }
 {
-    let n = x.len();
-    if n != y.len() {
+    if x.len() != y.len() {
         return scalar::not_a_number();
     }
     let mut acc0 = 0.0;
@@ -29,24 +28,27 @@ pub fn dot(x: &[f64], y: &[f64]) -> f64
     let mut acc5 = 0.0;
     let mut acc6 = 0.0;
     let mut acc7 = 0.0;
-    let blocks = n / 8;
-    for b in 0..blocks {
-        let i = b * 8;
-        acc0 = plus(x, y, i, acc0);
-        acc1 = plus(x, y, i + 1, acc1);
-        acc2 = plus(x, y, i + 2, acc2);
-        acc3 = plus(x, y, i + 3, acc3);
-        acc4 = plus(x, y, i + 4, acc4);
-        acc5 = plus(x, y, i + 5, acc5);
-        acc6 = plus(x, y, i + 6, acc6);
-        acc7 = plus(x, y, i + 7, acc7);
+    // The two parts move on, which the compiler finds cheap enough to put in line wherever this is called.
+    let mut u = x;
+    let mut v = y;
+    while u.len() >= 8 {
+        acc0 = plus(u, v, 0, acc0);
+        acc1 = plus(u, v, 1, acc1);
+        acc2 = plus(u, v, 2, acc2);
+        acc3 = plus(u, v, 3, acc3);
+        acc4 = plus(u, v, 4, acc4);
+        acc5 = plus(u, v, 5, acc5);
+        acc6 = plus(u, v, 6, acc6);
+        acc7 = plus(u, v, 7, acc7);
+        u = &u[8..];
+        v = &v[8..];
     }
     let mut res = 0.0 + (acc0 + acc4);
     res = res + (acc1 + acc5);
     res = res + (acc2 + acc6);
     res = res + (acc3 + acc7);
-    for j in blocks * 8..n {
-        res = plus(x, y, j, res);
+    for j in 0..u.len() {
+        res = plus(u, v, j, res);
     }
     res
 }

@@ -2,7 +2,7 @@
 use Prim.Native.Nat.{ℕ, _+_, _*_, _-_, _≤_, _<_}
 use mathlib.Core.Path.{_≡_}
 use mathlib.Core.List.{List}
-use native.Mathlib.Nat.{add-zero}
+use native.Mathlib.Nat.{add-zero, add-assoc}
 use native.Mathlib.Omega.{arith}
 use lib.ListN.{length, set}
 use lib.Ieee.{Float}
@@ -31,7 +31,7 @@ column-two v s p q t =
     set (set t p (f ⊗ v .x ⊕ s ⊗ (t ! p))) q (f ⊗ v .y ⊕ s ⊗ (t ! q))
 
 pub turn-down-three : (v : Vector3) (s : Float) (n row c0 j : ℕ) (t₀ t : List Float) → row + 3 ≤ n → c0 ≤ j → t ≡ inBlock n row (row + 3) c0 j (mirroredColumns bare (three v) s n row t₀) t₀
-    → column-three v s (place n row j) (place n (row + 1) j) (place n (row + 2) j) t ≡ inBlock n row (row + 3) c0 (j + 1) (mirroredColumns bare (three v) s n row t₀) t₀
+    → column-three v s (place n row j) (place n row j + 1) (place n row j + 2) t ≡ inBlock n row (row + 3) c0 (j + 1) (mirroredColumns bare (three v) s n row t₀) t₀
 unfolding mirroredColumns down bare
 turn-down-three v s n row c0 j t₀ t h k e =
     let g = mirroredColumns bare (three v) s n row t₀ in
@@ -41,10 +41,11 @@ turn-down-three v s n row c0 j t₀ t h k e =
     let first : row - row ≡ 0 = omega arith in
     let second : row + 1 - row ≡ 1 = omega arith in
     let third : row + 2 - row ≡ 2 = omega arith in
-    down-three n row c0 j g t₀ t _ _ _ h k e (rw (first, a, b, d, add-zero)) (rw (second, a, b, d, add-zero)) (rw (third, a, b, d, add-zero))
+    rw (add-assoc (j * n) row 1, add-assoc (j * n) row 2)
+    (down-three n row c0 j g t₀ t _ _ _ h k e (rw (first, a, b, d, add-zero)) (rw (second, a, b, d, add-zero)) (rw (third, a, b, d, add-zero)))
 
 pub turn-down-two : (v : Vector2) (s : Float) (n row c0 j : ℕ) (t₀ t : List Float) → row + 2 ≤ n → c0 ≤ j → t ≡ inBlock n row (row + 2) c0 j (mirroredColumns bare (two v) s n row t₀) t₀
-    → column-two v s (place n row j) (place n (row + 1) j) t ≡ inBlock n row (row + 2) c0 (j + 1) (mirroredColumns bare (two v) s n row t₀) t₀
+    → column-two v s (place n row j) (place n row j + 1) t ≡ inBlock n row (row + 2) c0 (j + 1) (mirroredColumns bare (two v) s n row t₀) t₀
 unfolding mirroredColumns down bare
 turn-down-two v s n row c0 j t₀ t h k e =
     let g = mirroredColumns bare (two v) s n row t₀ in
@@ -52,7 +53,7 @@ turn-down-two v s n row c0 j t₀ t h k e =
     let b = unread-down n row (row + 2) c0 j g t₀ t (row + 1) h (omega arith) e in
     let first : row - row ≡ 0 = omega arith in
     let second : row + 1 - row ≡ 1 = omega arith in
-    down-two n row c0 j g t₀ t _ _ h k e (rw (first, a, b, add-zero)) (rw (second, a, b, add-zero))
+    rw (add-assoc (j * n) row 1) (down-two n row c0 j g t₀ t _ _ h k e (rw (first, a, b, add-zero)) (rw (second, a, b, add-zero)))
 
 -- ---- across: the entries of one row, at p, q and o
 

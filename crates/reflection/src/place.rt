@@ -9,3 +9,11 @@ pub(crate) fn at(n: usize, i: usize, j: usize) -> usize
 {
     j * n + i
 }
+
+// The same, where `rows` entries from there on lie in the column, one below the other.
+pub(crate) fn first_of(n: usize, i: usize, j: usize, rows: usize) -> usize
+    requires { ⌜ (n ≤ 64) × (i + rows ≤ n) × (j < n) ⌝ }
+    ensures { λ r. ⌜ (r ≡ j * n + i) × (j * n + i + rows ≤ n * n) × (n * n ≤ 4096) ⌝ }
+{
+    j * n + i
+}

@@ -18,14 +18,6 @@ struct Four {
     w3: f64,
 }
 
-// Where row i of column j of a matrix of order n lies: three rows are below it.
-fn four_at(n: usize, i: usize, j: usize) -> usize
-    requires { ⌜ (n ≤ 64) × (i + 4 ≤ n) × (j < n) ⌝ }
-    ensures { λ r. ⌜ (r ≡ j * n + i) × (j * n + i + 4 ≤ n * n) × (n * n ≤ 4096) ⌝ }
-{
-    j * n + i
-}
-
 // The four numbers of t from p on, times x.
 fn times_four(t: &[f64], p: usize, x: f64) -> Four
     requires { ⌜ (p + 4 ≤ length (now t)) × (length (now t) ≤ 4096) ⌝ }
@@ -57,10 +49,10 @@ fn sums(a: &[f64], t: &[f64], n: usize, i: usize, c0: usize) -> Four
     requires { ⌜ (n ≤ 64) × (length (now t) ≡ n * n) × (i + 4 ≤ n) × (c0 + length (now a) ≤ n) × (0 < length (now a)) ⌝ }
     ensures { λ r. ⌜ r ≡ fourAlong (now (a .entry)) n c0 (now (t .entry)) i ⌝ }
 {
-    let o = four_at(n, i, c0);
+    let o = crate::place::first_of(n, i, c0, 4);
     let mut w = times_four(t, o, a[0]);
     for j in 1..a.len() {
-        let p = four_at(n, i, c0 + j);
+        let p = crate::place::first_of(n, i, c0 + j, 4);
         w = plus_four(t, p, a[j], w);
     }
     w
@@ -90,7 +82,7 @@ fn four_rows(a: &[f64], t: &mut [f64], n: usize, i: usize, c0: usize, sign: f64)
     let w = sums(a, t, n, i, c0);
     let m_two = sign * -2.0;
     for j in 0..a.len() {
-        let p = four_at(n, i, c0 + j);
+        let p = crate::place::first_of(n, i, c0 + j, 4);
         put_four(t, p, m_two * a[j], w, sign);
     }
 }

@@ -28,9 +28,9 @@ pub fn reflect3_with_sign(
     let z = a.z;
     let m_two = sign * -2.0;
     for j in c0..c1 {
-        let p = crate::place::at(n, row, j);
-        let q = crate::place::at(n, row + 1, j);
-        let o = crate::place::at(n, row + 2, j);
+        let p = crate::place::first_of(n, row, j, 3);
+        let q = p + 1;
+        let o = p + 2;
         let u = t[p];
         let v = t[q];
         let w = t[o];
@@ -104,8 +104,8 @@ pub fn reflect2_with_sign(
     let y = a.y;
     let m_two = sign * -2.0;
     for j in c0..c1 {
-        let p = crate::place::at(n, row, j);
-        let q = crate::place::at(n, row + 1, j);
+        let p = crate::place::first_of(n, row, j, 2);
+        let q = p + 1;
         let u = t[p];
         let v = t[q];
         let factor = (x * u + y * v) * m_two;

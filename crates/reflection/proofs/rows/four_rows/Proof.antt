@@ -28,7 +28,7 @@ loop-again c =
       inv .0,
       omega arith,
       omega arith,
-      rw (c .before .before .put-four .ensures, c .before .before .before .before .before .four-at .ensures .0, sums .ensures) (four-turn _ _ _ _ _ _ _ _ (omega arith) (inv .3)),
+      rw (c .before .before .put-four .ensures, c .before .before .before .before .before .first-of .ensures .0, sums .ensures) (four-turn _ _ _ _ _ _ _ _ (omega arith) (inv .3)),
     )
 
 returns : tie.Need-returns Inv-loop μ-loop

@@ -14,12 +14,12 @@ abbrev μ-loop : tie.MeasureT-loop
 μ-loop a t n i c0 o w₀ j₀ j-end w j = j-end - j
 
 loop-holds : tie.Need-loop-holds Inv-loop μ-loop
-loop-holds c = (omega arith, omega arith, omega arith, rw (c .times-four .ensures, c .before .before .four-at .ensures .0) (four-one _ _ _ _ _))
+loop-holds c = (omega arith, omega arith, omega arith, rw (c .times-four .ensures, c .before .before .first-of .ensures .0) (four-one _ _ _ _ _))
 
 loop-again : tie.Need-loop-again Inv-loop μ-loop
 loop-again c =
     let inv = c .before .before .before .before .loop .inv in
-    (inv .0, omega arith, omega arith, rw (c .plus-four .ensures, c .before .before .four-at2 .ensures .0, inv .3) (four-more _ _ _ _ _ _ (inv .1)))
+    (inv .0, omega arith, omega arith, rw (c .plus-four .ensures, c .before .before .first-of2 .ensures .0, inv .3) (four-more _ _ _ _ _ _ (inv .1)))
 
 returns : tie.Need-returns Inv-loop μ-loop
 returns c = c .before .loop .inv .3 ∙ four-done _ _ _ _ _ _ (omega arith)

@@ -31,12 +31,12 @@ loop-holds c =
 
 loop-again : tie.Need-loop-again Inv-loop μ-loop
 loop-again c =
-    let inv = c .before .before .before .before .before .before .before .loop .inv in (
+    let inv = c .before .before .before .before .before .loop .inv in (
       inv .0,
       omega arith,
       omega arith,
       simp length-set (omega arith),
-      rw (c .before .before .before .before .before .at .ensures .0, c .before .before .before .before .at2 .ensures .0, c .before .before .before .at3 .ensures .0) (turn-down-three _ _ _ _ _ _ _ _ (inv .0 .inRows) (inv .1) (inv .4)),
+      rw (c .before .before .before .first-of .ensures .0) (turn-down-three _ _ _ _ _ _ _ _ (inv .0 .inRows) (inv .1) (inv .4)),
     )
 
 returns-2 : tie.Need-returns-2 Inv-loop μ-loop
@@ -54,9 +54,9 @@ reflect3-with-sign-spec =
     (λ c κs. omega arith)
     returns
     loop-holds
-    (λ c κs. omega arith) (λ c. omega arith) (λ c κs. omega arith) (λ c. omega arith) (λ c κs. omega arith) (λ c. omega arith) (λ c. omega arith)
-    (λ c. omega arith) (λ c. omega arith) (λ c. omega arith) (λ c. omega arith) (λ c. omega arith) (λ c. omega arith) (λ c. omega arith)
-    (λ c. simp length-set (omega arith)) (λ c. omega arith) (λ c. simp length-set (omega arith)) (λ c. omega arith) (λ c. omega arith)
+    (λ c κs. omega arith) (λ c. omega arith) (λ c. omega arith) (λ c. omega arith) (λ c. omega arith) (λ c. omega arith) (λ c. omega arith)
+    (λ c. omega arith) (λ c. omega arith) (λ c. omega arith) (λ c. omega arith) (λ c. omega arith) (λ c. simp length-set (omega arith))
+    (λ c. omega arith) (λ c. simp length-set (omega arith)) (λ c. omega arith) (λ c. omega arith)
     loop-again
     (λ c. omega arith)
     returns-2)
