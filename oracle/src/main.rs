@@ -6,6 +6,10 @@
 mod bench;
 mod crate_side;
 mod door;
+mod leaves;
+#[allow(dead_code)]
+#[rustfmt::skip]
+mod model;
 mod random;
 mod root;
 mod scalar;
@@ -24,6 +28,7 @@ const COMMANDS: &[(&str, &str, Run)] = &[
         "[--count THOUSANDS] [--seed HEX] [--repeat TIMES]",
         bench::run,
     ),
+    ("leaves", "[--write]", leaves::run),
     ("root", "[--count MILLIONS] [--seed HEX]", root::run),
     ("scalar", "[--write]", scalar::run),
     ("sums", "", sums::run),

@@ -1,5 +1,5 @@
 -- Zeros throughout and then 1 on the diagonal is the identity. Assumes nothing.
-use Prim.Native.Nat.{ℕ, _+_, _*_, _≤_, _<_}
+use Prim.Native.Nat.{ℕ, _*_, _≤_, _<_}
 use mathlib.Core.Path.{_≡_, sym, _∙_}
 use mathlib.Core.Bool.{cond}
 use mathlib.Core.Logic.{_≢_}
@@ -15,8 +15,7 @@ use Rattle.loops.specs.Constants.{zero, one}
 use Rattle.loops.specs.Place.{place, in-square, places}
 use Rattle.loops.specs.Rounded.{_!_}
 use Rattle.loops.specs.Times.{times, times-length, times-frame, times-at}
-use Rattle.matrix.specs.Entries.{inBlock}
-use Rattle.matrix.specs.Vectors.{each, eachTo}
+use Rattle.matrix.specs.Vectors.{each}
 use Rattle.matrix.proofs.Each.{eachTo-length, eachTo-at}
 use Rattle.matrix.proofs.Blocks.{inBlock-is}
 use Rattle.matrix.proofs.Kernels.{onEntries-does}

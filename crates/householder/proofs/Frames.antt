@@ -12,7 +12,7 @@ use lib.ListN.{length}
 use lib.Ieee.{Float, nan}
 use Rattle.loops.specs.Down.{down, down-length}
 use Rattle.loops.specs.Part.{onPart, onPart-length, onPart-before}
-use Rattle.loops.specs.Place.{place, Inside, column}
+use Rattle.loops.specs.Place.{place, column}
 use Rattle.loops.specs.Rounded.{_!_}
 use Rattle.scalar.specs.Sign.{signumOf}
 use Rattle.matrix.specs.Sum.{lanes}

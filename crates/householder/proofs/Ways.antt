@@ -1,6 +1,5 @@
 -- The axis by its ways. `axis-none` and `axis-made` take the numbers as a routine has them in hand: the square of the norm, the norm, the first
 -- number's magnitude and sign. Assumes nothing.
-use Prim.Native.Nat.{ℕ}
 use mathlib.Core.Path.{_≡_, refl, sym, ap, _∙_}
 use mathlib.Core.Logic.{_≢_}
 use mathlib.Core.Bool.{Bool, true, false, cond}
@@ -18,7 +17,7 @@ use Rattle.scalar.specs.declared.sign.Exp.{Exp}
 use Rattle.matrix.specs.Sum.{Order}
 use Rattle.matrix.specs.Vectors.{normSquared, normOf, unscaled, normalized}
 use Rattle.matrix.proofs.Each.{eachTo-length}
-use Rattle.householder.specs.Axis.{Told, told, signedNorm, factorOf, shifted, Way, Reflected, AllZero, TooSmall, allZero, wayOf, inWay, axisOf}
+use Rattle.householder.specs.Axis.{told, signedNorm, factorOf, shifted, Way, Reflected, AllZero, TooSmall, allZero, wayOf, inWay, axisOf}
 
 -- a column without a number
 pub axis-empty : (sum : Order) (c : List Float) → length c ≡ 0 → told c zero false ≡ axisOf sum c

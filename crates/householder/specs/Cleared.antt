@@ -1,5 +1,5 @@
 -- Column k of a matrix of order n cleared by a reflection of both sides (document 01, steps 2 and 4; docs/SUMS.md, 3.4).
-use Prim.Native.Nat.{ℕ, _+_, _*_}
+use Prim.Native.Nat.{ℕ, _+_}
 use mathlib.Core.Bool.{cond, _&&_}
 use mathlib.Core.List.{List}
 use lib.Dec.{leb}

@@ -5,7 +5,7 @@ use mathlib.Core.Path.{_≡_, refl}
 use Prim.Native.Nat.{ℕ}
 use mathlib.Core.Bool.{cond}
 use mathlib.Core.List.{List, [], _∷_, _++_, map}
-use lib.Ieee.{Float, binary64, toBits, neg, eq}
+use lib.Ieee.{binary64, toBits, neg, eq}
 use Rattle.loops.specs.Down.{down}
 use Rattle.loops.specs.Part.{onPart}
 use Rattle.scalar.specs.Sign.{signumOf, toExpOf}
@@ -14,7 +14,7 @@ use Rattle.matrix.specs.Known.{read, shown, opened}
 use Rattle.reflection.specs.Reflected.{mirroredColumns, reflected, mirroredRows, reflectedRows}
 use Rattle.reflection.specs.Reflected.{down as downColumn}
 use Rattle.householder.specs.Axis.{Told, signedNorm, factorOf, shifted, allZero, wayOf, inWay, axisOf}
-use Rattle.householder.specs.Axis.{Way, Reflected, AllZero, TooSmall}
+use Rattle.householder.specs.Axis.{Reflected, AllZero, TooSmall}
 use Rattle.householder.specs.Cleared.{Cleared, copied, bothSides, clearedHere, clearOf}
 use Rattle.householder.specs.Assembled.{identity, withAxis, assembled}
 

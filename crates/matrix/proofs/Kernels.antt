@@ -12,7 +12,7 @@ use Rattle.loops.specs.Place.{place, Inside}
 use Rattle.loops.specs.Rounded.{_!_}
 use Rattle.loops.specs.Times.{range-one}
 use Rattle.matrix.specs.Fits.{blockFits}
-use Rattle.matrix.specs.Entries.{Rule, atEntry, inBlock, onEntries, entryOf, putOf}
+use Rattle.matrix.specs.Entries.{Rule, inBlock, onEntries, entryOf, putOf}
 use Rattle.matrix.proofs.Fitting.{Fits, fits, fitting}
 use Rattle.matrix.proofs.Blocks.{inBlock-length, inBlock-frame, inBlock-at}
 

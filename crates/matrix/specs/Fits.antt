@@ -1,5 +1,5 @@
 -- Whether a block of a square matrix lies in it: the one test at the head of every kernel.
-use Prim.Native.Nat.{ℕ, _+_, _*_}
+use Prim.Native.Nat.{ℕ, _*_}
 use mathlib.Core.Bool.{Bool, _&&_}
 use lib.Dec.{leb, eqb}
 

@@ -1,17 +1,14 @@
 -- `householder::clear::clear_column` meets its contract. Assumes nothing.
-use mathlib.Core.Path.{_≡_, ap, _∙_}
-use Prim.Native.Nat.{_+_, _*_, _-_}
+use mathlib.Core.Path.{_≡_, _∙_}
+use Prim.Native.Nat.{_+_}
 use native.Mathlib.Omega.{arith}
 use borrow.Author.Needs.{needs}
 use borrow.Author.Tests.{le-leb, lt-leb, not-true, not-false}
 use lib.ListN.{length}
 use Rattle.loops.specs.Place.{place, Column, column}
 use Rattle.loops.specs.Part.{onPart, part-length, onPart-part}
-use Rattle.matrix.specs.Sum.{lanes}
 use Rattle.matrix.proofs.Fitting.{Fits, within, inside, outside}
-use Rattle.householder.specs.Axis.{Told, axisOf}
 use Rattle.householder.specs.Cleared.{belowRow, clearedHere, clearOf}
-use Rattle.householder.proofs.Ways.{axis-length}
 use Rattle.householder.proofs.clear.clear_column.Statement.{statement}
 use Rattle.householder.proofs.clear.clear_column.Tie as tie
 

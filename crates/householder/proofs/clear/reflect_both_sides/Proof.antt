@@ -1,8 +1,7 @@
 -- `householder::clear::reflect_both_sides` meets its contract. Assumes nothing.
 use mathlib.Core.Path.{_≡_}
-use Prim.Native.Nat.{_+_, _*_, _-_}
+use Prim.Native.Nat.{_+_, _-_}
 use native.Mathlib.Omega.{arith}
-use lib.ListN.{length}
 use Rattle.loops.specs.Place.{place, Column, column}
 use Rattle.loops.specs.Part.{part, part-length}
 use Rattle.householder.specs.Cleared.{belowRow, copied, bothSides}

@@ -1,9 +1,8 @@
 -- `matrix::block::entry` meets its contract. Assumes nothing.
 use native.Mathlib.Omega.{arith}
 use borrow.Author.Needs.{needs}
-use Rattle.loops.specs.Place.{in-square}
 use Rattle.matrix.specs.Entries.{entryOf}
-use Rattle.matrix.proofs.Fitting.{Spot, spot, inside, outside}
+use Rattle.matrix.proofs.Fitting.{spot, inside, outside}
 use Rattle.matrix.proofs.block.entry.Statement.{statement}
 use Rattle.matrix.proofs.block.entry.Tie as tie
 

@@ -1,0 +1,26 @@
+-- `leaf_runs::say::numbers` is safe and ends. Assumes nothing.
+use Prim.Native.Nat.{_-_, _≤_}
+use borrow.Author.Needs.{needs}
+use Rattle.leaf_runs.proofs.say.numbers.Statement.{statement}
+use Rattle.leaf_runs.proofs.say.numbers.Tie as tie
+
+abbrev Inv-loop : tie.InvT-loop
+Inv-loop v i₀ i-end i = i ≤ i-end
+
+abbrev μ-loop : tie.MeasureT-loop
+μ-loop v i₀ i-end i = i-end - i
+
+pub numbers-spec : {M : Type 1} → statement M
+numbers-spec =
+    tie.close
+    (tie.spec
+    Inv-loop
+    μ-loop
+    (λ c. search needs)
+    (λ c. search needs)
+    (λ c. search needs)
+    (λ c κs. search needs)
+    (λ c. search needs)
+    (λ c. search needs)
+    (λ c. search needs)
+    (λ c. search needs))
