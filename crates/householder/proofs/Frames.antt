@@ -14,6 +14,7 @@ use Rattle.loops.specs.Down.{down, down-length}
 use Rattle.loops.specs.Part.{onPart, onPart-length, onPart-before}
 use Rattle.loops.specs.Place.{place, column}
 use Rattle.loops.specs.Rounded.{_!_}
+use Rattle.loops.specs.Tests.{cond-hold}
 use Rattle.scalar.specs.Sign.{signumOf}
 use Rattle.matrix.specs.Sum.{lanes}
 use Rattle.matrix.specs.Fits.{blockFits}
@@ -41,10 +42,6 @@ bothSides-frame n k a s t i j h l =
     simp (columns, rows)
 
 -- ---- a column cleared
-
-cond-keeps : {A B : Type 0} (f : A → B) (b : Bool) (x y : A) (z : B) → f x ≡ z → f y ≡ z → f (cond b x y) ≡ z
-cond-keeps f true x y z h k = h
-cond-keeps f false x y z h k = k
 
 -- an entry left of column k, or of it and not below row k, stands before the part that is lent
 before : (n k i j : ℕ) → i < n → j ≤ k → (j ≡ k → i ≤ k) → place n i j < place n (k + 1) k
@@ -75,19 +72,19 @@ module _ (n k : ℕ) (t : List Float) (f : Fits n (length t) (k + 2) (k + 2)) wh
   unfolding clearedHere made
   here-length w =
       let r = axisOf lanes (belowRow n k t) in
-      cond-keeps (λ (s : List Float). length s) (r .reflected) (bothSides n k (r .axis) (signumOf (r .norm)) made) made (length t) (bothSides-length n k _ _ made ∙ made-length) made-length
+      cond-hold (λ s. length s ≡ length t) (r .reflected) (bothSides n k (r .axis) (signumOf (r .norm)) made) made (λ _. bothSides-length n k _ _ made ∙ made-length) made-length
 
   here-frame : (w : List Float) (i j : ℕ) → i < n → j ≤ k → (j ≡ k → i ≤ k) → clearedHere n k t w .matrix ! place n i j ≡ t ! place n i j
   unfolding clearedHere made
   here-frame w i j h l m =
       let r = axisOf lanes (belowRow n k t) in
-      cond-keeps (λ s. s ! place n i j) (r .reflected) (bothSides n k (r .axis) (signumOf (r .norm)) made) made (t ! place n i j) (bothSides-frame n k _ _ made i j h l ∙ made-frame i j h l m) (made-frame i j h l m)
+      cond-hold (λ s. s ! place n i j ≡ t ! place n i j) (r .reflected) (bothSides n k (r .axis) (signumOf (r .norm)) made) made (λ _. bothSides-frame n k _ _ made i j h l ∙ made-frame i j h l m) (made-frame i j h l m)
 
   here-work : (w : List Float) → length (clearedHere n k t w .work) ≡ length w
   unfolding clearedHere copied
   here-work w =
       let r = axisOf lanes (belowRow n k t) in
-      cond-keeps (λ (s : List Float). length s) (r .reflected) (copied (r .axis) w) w (length w) (eachTo-length _ _ w) refl
+      cond-hold (λ s. length s ≡ length w) (r .reflected) (copied (r .axis) w) w (λ _. eachTo-length _ _ w) refl
 
 -- what holds where nothing is done and where the column is cleared, holds
 either : (P : Cleared → Type 0) (n k : ℕ) (t w : List Float) → (Fits n (length t) (k + 2) (k + 2) → P (clearedHere n k t w)) → P (cleared nan t w) → P (clearOf n k t w)
@@ -123,4 +120,4 @@ pub assembled-length : (n : ℕ) (m signs q : List Float) → length (assembled 
 unfolding assembled
 assembled-length n m signs q =
     let whole : Bool = blockFits n (length m) n n && (blockFits n (length q) n n && leb (n - 1) (length signs)) in
-    cond-keeps (λ (s : List Float). length s) whole (down (withAxis n m signs) (n - 1) (identity n q)) q (length q) (down-length (withAxis n m signs) (n - 1) (identity n q) (λ i s. withAxis-length n m signs i s) ∙ identity-length n q) refl
+    cond-hold (λ s. length s ≡ length q) whole (down (withAxis n m signs) (n - 1) (identity n q)) q (λ _. down-length (withAxis n m signs) (n - 1) (identity n q) (λ i s. withAxis-length n m signs i s) ∙ identity-length n q) refl

@@ -102,6 +102,8 @@ pub(crate) fn cases() {
     run(2, 4, 2, 0, 2, 0, 2, 4, 8);
     run(4, 16, 3, 1, 4, 0, 4, 15, 8);
     run(2, 4, 2, 0, 2, 0, 2, 0, 31);
+    // the sign NaN
+    run(2, 4, 2, 0, 2, 0, 2, 0, 15);
     // what does not lie in the matrix: rows, columns, ends that would wrap; another number of entries; orders 0, 65
     run(2, 4, 2, 1, 3, 0, 2, 0, 8);
     run(2, 4, 2, 0, 2, 1, 3, 0, 8);

@@ -3,22 +3,18 @@
 -- `entryOf` and `putOf`, the total read and write, have theirs here too. Assumes nothing.
 use Prim.Native.Nat.{ℕ, _+_, _*_, _≤_, _<_}
 use mathlib.Core.Path.{_≡_, refl, _∙_}
-use mathlib.Core.Bool.{Bool, true, false, cond}
 use mathlib.Core.List.{List}
 use native.Mathlib.Omega.{arith}
 use lib.ListN.{length, set}
 use lib.Ieee.{Float}
 use Rattle.loops.specs.Place.{place, Inside}
 use Rattle.loops.specs.Rounded.{_!_}
+use Rattle.loops.specs.Tests.{cond-hold}
 use Rattle.loops.specs.Times.{range-one}
 use Rattle.matrix.specs.Fits.{blockFits}
 use Rattle.matrix.specs.Entries.{Rule, inBlock, onEntries, entryOf, putOf}
 use Rattle.matrix.proofs.Fitting.{Fits, fits, fitting}
 use Rattle.matrix.proofs.Blocks.{inBlock-length, inBlock-frame, inBlock-at}
-
-cond-hold : {A : Type 0} (P : A → Type 0) (b : Bool) (x y : A) → (b ≡ true → P x) → P y → P (cond b x y)
-cond-hold P true x y h k = h refl
-cond-hold P false x y h k = k
 
 -- it keeps what the loops keep where the block lies in the matrix
 pub onEntries-hold : (P : List Float → Type 0) (n r0 r1 c0 c1 : ℕ) (g : Rule) (t : List Float) → (Fits n (length t) r1 c1 → P (inBlock n r0 r1 c0 c1 g t)) → P t → P (onEntries n r0 r1 c0 c1 g t)

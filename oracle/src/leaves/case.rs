@@ -29,7 +29,7 @@ impl Case {
 }
 
 /// The fields of a case, in their order.
-const CASES: [[usize; 9]; 22] = [
+const CASES: [[usize; 9]; 23] = [
     // whole matrices
     [1, 1, 1, 0, 1, 0, 1, 0, 8],
     [2, 4, 2, 0, 2, 0, 2, 8, 16],
@@ -49,6 +49,8 @@ const CASES: [[usize; 9]; 22] = [
     [2, 4, 2, 0, 2, 0, 2, 4, 8],
     [4, 16, 3, 1, 4, 0, 4, 15, 8],
     [2, 4, 2, 0, 2, 0, 2, 0, 31],
+    // the sign NaN
+    [2, 4, 2, 0, 2, 0, 2, 0, 15],
     // what does not lie in the matrix: rows, columns, ends that would wrap; another number of entries; orders 0, 65
     [2, 4, 2, 1, 3, 0, 2, 0, 8],
     [2, 4, 2, 0, 2, 1, 3, 0, 8],
