@@ -17,6 +17,7 @@ pub struct Turn {
     pub norm: f64,
 }
 
+// What making one answers: a rotation, or that none is needed.
 pub enum Made {
     Needed(Turn),
     NoneNeeded,

@@ -27,7 +27,7 @@ told c x b = record { axis = c; norm = x; reflected = b }
 unfoldable pub signedNorm : Order → List Float → Float
 signedNorm sum c = toExpOf (c ! 0) .sign ⊗ normOf sum c
 
--- twice the square of the norm that the column has once the signed norm is added to its first number
+-- the square of the norm that the column has once the signed norm is added to its first number, worked out from what is at hand
 unfoldable pub factorOf : Order → List Float → Float
 factorOf sum c = (normSquared sum c ⊕ toExpOf (c ! 0) .magnitude ⊗ normOf sum c) ⊗ two
 

@@ -59,6 +59,7 @@ pub fn reflection_axis_mut(column: &mut [f64]) -> Axis
     }
 }
 
+// For a column of three numbers, whose sums have no leading zero but the norm's.
 pub fn reflection_axis3(column: Vector3) -> Axis3
     ensures { λ r. ⌜ told (three (r .axis)) (r .norm) (r .reflected) ≡ axisOf bare (three column) ⌝ }
 {
@@ -87,6 +88,7 @@ pub fn reflection_axis3(column: Vector3) -> Axis3
     }
 }
 
+// For one of two.
 pub fn reflection_axis2(column: Vector2) -> Axis2
     ensures { λ r. ⌜ told (two (r .axis)) (r .norm) (r .reflected) ≡ axisOf bare (two column) ⌝ }
 {

@@ -43,6 +43,7 @@ pub fn reflect_with_sign(
     }
 }
 
+// The same without a sign, that is with the sign 1.
 pub fn reflect(a: &[f64], t: &mut [f64], n: usize, row: usize, c0: usize, c1: usize)
     ensures { λ _. ⌜ now (t .exit) ≡ reflected lanes (now (a .entry)) one n row c0 c1 (now (t .entry)) ⌝ }
 {

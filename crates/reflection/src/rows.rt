@@ -135,6 +135,7 @@ pub fn reflect_rows_with_sign(a: &[f64], t: &mut [f64], n: usize, rows: usize, c
     }
 }
 
+// The same without a sign, that is with the sign 1.
 pub fn reflect_rows(a: &[f64], t: &mut [f64], n: usize, rows: usize, c0: usize)
     ensures { λ _. ⌜ now (t .exit) ≡ reflectedRows (now (a .entry)) one n rows c0 (now (t .entry)) ⌝ }
 {

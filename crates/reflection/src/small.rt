@@ -41,6 +41,7 @@ pub fn reflect3_with_sign(
     }
 }
 
+// The same without a sign, that is with the sign 1.
 pub fn reflect3(a: Vector3, t: &mut [f64], n: usize, row: usize, c0: usize, c1: usize)
     ensures { λ _. ⌜ now (t .exit) ≡ reflected bare (three a) one n row c0 c1 (now (t .entry)) ⌝ }
 {
@@ -79,6 +80,7 @@ pub fn reflect_rows3_with_sign(
     }
 }
 
+// The same without a sign, that is with the sign 1.
 pub fn reflect_rows3(a: Vector3, t: &mut [f64], n: usize, rows: usize, c0: usize)
     ensures { λ _. ⌜ now (t .exit) ≡ reflectedRows (three a) one n rows c0 (now (t .entry)) ⌝ }
 {
@@ -114,6 +116,7 @@ pub fn reflect2_with_sign(
     }
 }
 
+// The same without a sign, that is with the sign 1.
 pub fn reflect2(a: Vector2, t: &mut [f64], n: usize, row: usize, c0: usize, c1: usize)
     ensures { λ _. ⌜ now (t .exit) ≡ reflected bare (two a) one n row c0 c1 (now (t .entry)) ⌝ }
 {
@@ -148,6 +151,7 @@ pub fn reflect_rows2_with_sign(
     }
 }
 
+// The same without a sign, that is with the sign 1.
 pub fn reflect_rows2(a: Vector2, t: &mut [f64], n: usize, rows: usize, c0: usize)
     ensures { λ _. ⌜ now (t .exit) ≡ reflectedRows (two a) one n rows c0 (now (t .entry)) ⌝ }
 {
