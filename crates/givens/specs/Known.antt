@@ -1,5 +1,6 @@
--- Worked cases, by evaluation: patterns in, patterns out. The answers are those of the plain model of the Rust, oracle/src/model.rs, on the same patterns.
--- Where a length or a place does not fit, the Rust has no answer, and a case shows what is defined there.
+-- Worked cases, by evaluation: patterns in, patterns out. Cosine and sine, and both turns, were computed by the functions of the plain model
+-- of the Rust, oracle/src/model.rs. It has none for a rotation's norm, `cancel_y` and the inverse: those answers were worked out in Rust by the
+-- formulas of docs/SUMS.md. Where a place does not fit, the Rust has no answer, and a case shows what is defined there.
 -- -0 is 0x8000_0000_0000_0000, and NaN is 0x7ff8_0000_0000_0000.
 use mathlib.Core.Path.{_≡_, refl}
 use Prim.Native.Nat.{ℕ}

@@ -1,5 +1,6 @@
--- Worked cases, by evaluation: patterns in, patterns out. The answers are those of the plain model of the Rust, oracle/src/model.rs, on the same patterns.
--- Where a length or a place does not fit, the Rust has no answer, and a case shows what is defined there.
+-- Worked cases, by evaluation: patterns in, patterns out. Axes and Q were computed by the functions of the plain model of the Rust,
+-- oracle/src/model.rs, and a cleared column by the lines of its reduction. Which of the three ways it is, and what stands in the workspace, the model
+-- does not say: there, and where a length or a place does not fit, a case shows what is defined.
 -- -0 is 0x8000_0000_0000_0000, and NaN is 0x7ff8_0000_0000_0000.
 use mathlib.Core.Path.{_≡_, refl}
 use Prim.Native.Nat.{ℕ}
