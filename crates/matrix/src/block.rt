@@ -23,16 +23,16 @@ fn span_fits(n: usize, a: usize, len: usize) -> bool
 pub fn block_fits(n: usize, len: usize, row: usize, rows: usize, col: usize, cols: usize) -> bool
     ensures { λ r. ⌜ r ≡ blockFits n len (row + rows) (col + cols) ⌝ }
 {
+    if !span_fits(n, col, cols) {
+        return false;
+    }
     if n > 64 {
         return false;
     }
     if len != n * n {
         return false;
     }
-    if !span_fits(n, row, rows) {
-        return false;
-    }
-    span_fits(n, col, cols)
+    span_fits(n, row, rows)
 }
 
 // Row i of column j: a NaN where there is no such place.
