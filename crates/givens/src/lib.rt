@@ -135,7 +135,7 @@ impl Rotation {
         let m = -s;
         for i in 0..rows {
             let p = at(n, i, k);
-            let q = at(n, i, k + 1);
+            let q = p + n;
             let a = t[p];
             let b = t[q];
             t[p] = a * c + s * b;

@@ -1,5 +1,5 @@
 -- What a list holds after its first k numbers were rewritten: `eachTo`. Assumes nothing.
-use mathlib.Core.Path.{_≡_, sym, ap, _∙_}
+use mathlib.Core.Path.{_≡_, refl, sym, ap, _∙_}
 use mathlib.Core.List.{List}
 use Prim.Native.Nat.{ℕ, _+_, _<_, _≤_}
 use native.Mathlib.Decide.{decLt}
@@ -41,6 +41,28 @@ eachTo-at k g t i h l =
     times-at _ k t i i nan h (λ j s m d. getD-set-other s j i _ nan (omega arith))
     ∙ getD-set-same (eachTo i g t) i _ nan (omega (arith, eachTo-length i g t))
     ∙ ap (g i) (eachTo-past i g t i (omega arith))
+
+-- ---- the same as the state of a loop: i of the first k numbers of t₀ are rewritten, and what that has made of it is t
+
+pub record Rewriting (k : ℕ) (g : ℕ → Float → Float) (t₀ : List Float) (i : ℕ) (t : List Float) : Type 0 where
+  pub upto : i ≤ k
+  pub room : k ≤ length t₀
+  pub size : length t ≡ length t₀
+  pub done : t ≡ eachTo i g t₀
+
+pub rewriting-none : (k : ℕ) (g : ℕ → Float → Float) (t : List Float) → k ≤ length t → Rewriting k g t 0 t
+rewriting-none k g t h = record { upto = omega arith; room = h; size = refl; done = sym (eachTo-none g t) }
+
+pub rewriting-more : {k : ℕ} {g : ℕ → Float → Float} {t₀ : List Float} {i : ℕ} {t : List Float} → Rewriting k g t₀ i t → i < k → Rewriting k g t₀ (i + 1) (set t i (g i (t ! i)))
+rewriting-more {k} {g} {t₀} {i} {t} d h = record {
+  upto = omega arith;
+  room = d .room;
+  size = simp length-set (d .size);
+  done = rw (eachTo-more i g t₀, ← d .done);
+}
+
+pub rewriting-done : {k : ℕ} {g : ℕ → Float → Float} {t₀ : List Float} {i : ℕ} {t : List Float} → Rewriting k g t₀ i t → k ≤ i → t ≡ eachTo k g t₀
+rewriting-done {k} {g} {t₀} {i} d h = d .done ∙ eachTo-done i k g t₀ (d .upto) h
 
 -- ---- two of them
 

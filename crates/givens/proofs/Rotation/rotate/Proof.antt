@@ -1,11 +1,8 @@
 -- `givens::Rotation::rotate` meets its contract. Assumes nothing.
-use mathlib.Core.Path.{_≡_, sym, _∙_}
-use Prim.Native.Nat.{_+_, _*_, _-_, _≤_, max}
+use Prim.Native.Nat.{_+_, _-_}
 use native.Mathlib.Omega.{arith}
-use lib.ListN.{length, length-set}
-use Rattle.matrix.specs.Entries.{inBlock, onEntries}
-use Rattle.matrix.proofs.Fitting.{Fits, within, inside, outside, from-column-0}
-use Rattle.matrix.proofs.Blocks.{inBlock-no-columns, inBlock-columns-done}
+use lib.ListN.{length-set}
+use Rattle.matrix.proofs.Walks.{Down, down-refused, down-begun, down-more, down-done}
 use Rattle.givens.specs.Rotation.{rotation}
 use Rattle.givens.specs.Rotated.{turnedRows, rotated}
 use Rattle.givens.proofs.Turning.{turn-down}
@@ -13,48 +10,23 @@ use Rattle.givens.proofs.Rotation.rotate.Statement.{statement}
 use Rattle.givens.proofs.Rotation.rotate.Tie as tie
 
 abbrev Inv-loop : tie.InvT-loop
-Inv-loop t₀ n i c0 c1 c s j₀ t j = Fits n (length t₀) (i + 2) c1 × (c0 ≤ j) × (j ≤ max c0 c1) × (length t ≡ n * n)
-    × (t ≡ inBlock n i (i + 2) c0 j (turnedRows (rotation c s) n i t₀) t₀)
+Inv-loop t₀ n i c0 c1 c s j₀ t j = Down n i (i + 2) c0 c1 (turnedRows (rotation c s) n i t₀) t₀ j t
 
 abbrev μ-loop : tie.MeasureT-loop
 μ-loop t₀ n i c0 c1 c s j₀ t j = c1 - j
 
-returns : tie.Need-returns Inv-loop μ-loop
-unfolding rotated onEntries
-returns c = rw (outside (from-column-0 _ _ _ _ (c .before .block-fits .ensures)) (c .if1 .taken))
-
-loop-holds : tie.Need-loop-holds Inv-loop μ-loop
-loop-holds c =
-    let fits = within _ _ _ _ (from-column-0 _ _ _ _ (c .before .block-fits .ensures)) (c .if1 .left) in
-    (fits, omega arith, omega arith, omega arith, sym (inBlock-no-columns _ _ _ _ _ _))
-
 loop-again : tie.Need-loop-again Inv-loop μ-loop
 loop-again c =
-    let inv = c .before .before .before .before .before .loop .inv in (
-      inv .0,
-      omega arith,
-      omega arith,
-      simp length-set (omega arith),
-      rw (c .before .before .before .at .ensures .0, c .before .before .at2 .ensures .0) (turn-down _ _ _ _ _ _ _ (inv .0 .inRows) (inv .1) (inv .4)),
-    )
-
-returns-2 : tie.Need-returns-2 Inv-loop μ-loop
-unfolding rotated onEntries
-returns-2 c =
-    rw (inside (from-column-0 _ _ _ _ (c .before .before .before .block-fits .ensures)) (c .before .before .if1 .left))
-    (c .before .loop .inv .4 ∙ inBlock-columns-done _ _ _ _ _ _ _ _ (omega arith) (omega arith) (omega arith))
+    let inv = c .before .before .before .before .before .loop .inv in
+    down-more inv (omega arith) (rw (c .before .before .before .at .ensures .0, c .before .before .at2 .ensures .0) (turn-down _ _ _ _ _ _ _ (inv .fits .inRows) (inv .from) (inv .done)))
 
 pub rotate-spec : {M : Type 1} → statement M
-rotate-spec =
-    tie.close
-    (tie.spec
-    Inv-loop
-    μ-loop
-    (λ c κs. omega arith)
-    returns
-    loop-holds
+unfolding rotated
+rotate-spec = tie.close (tie.spec Inv-loop μ-loop (λ c κs. omega arith)
+    (λ c. down-refused _ _ _ _ _ _ _ (c .before .block-fits .ensures) (c .if1 .taken))
+    (λ c. down-begun _ _ _ _ _ _ _ (c .before .block-fits .ensures) (c .if1 .left))
     (λ c κs. omega arith) (λ c. omega arith) (λ c κs. omega arith) (λ c. omega arith) (λ c. omega arith) (λ c. omega arith) (λ c. omega arith)
     (λ c. omega arith) (λ c. omega arith) (λ c. omega arith) (λ c. simp length-set (omega arith)) (λ c. omega arith) (λ c. omega arith)
     loop-again
     (λ c. omega arith)
-    returns-2)
+    (λ c. down-done (c .before .loop .inv) (omega arith)))

@@ -1,59 +1,36 @@
 -- `givens::Rotation::rotate_rows` meets its contract. Assumes nothing.
-use mathlib.Core.Path.{_≡_, sym, _∙_}
-use Prim.Native.Nat.{_+_, _*_, _-_, _≤_}
+use Prim.Native.Nat.{_+_, _-_}
 use native.Mathlib.Omega.{arith}
-use lib.ListN.{length, length-set}
-use Rattle.matrix.specs.Entries.{inBlock, onEntries}
-use Rattle.matrix.proofs.Fitting.{Fits, within, inside, outside, from-row-0}
-use Rattle.matrix.proofs.Blocks.{inBlock-no-rows, inBlock-rows-done}
+use lib.ListN.{length-set}
+use Rattle.matrix.proofs.Walks.{Across, across-refused, across-begun, across-more, across-done}
 use Rattle.givens.specs.Rotation.{rotation}
 use Rattle.givens.specs.Rotated.{turnedColumns, rotatedRows}
-use Rattle.givens.proofs.Turning.{turn-across}
+use Rattle.givens.proofs.Turning.{Beside, beside, turn-across}
 use Rattle.givens.proofs.Rotation.rotate_rows.Statement.{statement}
 use Rattle.givens.proofs.Rotation.rotate_rows.Tie as tie
 
 abbrev Inv-loop : tie.InvT-loop
-Inv-loop t₀ n k rows c s m i₀ t i = Fits n (length t₀) rows (k + 2) × (i ≤ rows) × (length t ≡ n * n)
-    × (t ≡ inBlock n 0 i k (k + 2) (turnedColumns (rotation c s) n k t₀) t₀)
+Inv-loop t₀ n k rows c s m i₀ t i = Across n rows k (k + 2) (turnedColumns (rotation c s) n k t₀) t₀ i t
 
 abbrev μ-loop : tie.MeasureT-loop
 μ-loop t₀ n k rows c s m i₀ t i = rows - i
 
-returns : tie.Need-returns Inv-loop μ-loop
-unfolding rotatedRows onEntries
-returns c = rw (outside (from-row-0 _ _ _ _ (c .before .block-fits .ensures)) (c .if1 .taken))
-
-loop-holds : tie.Need-loop-holds Inv-loop μ-loop
-loop-holds c =
-    let fits = within _ _ _ _ (from-row-0 _ _ _ _ (c .before .block-fits .ensures)) (c .if1 .left) in
-    (fits, omega arith, omega arith, sym (inBlock-no-rows _ _ _ (fits .size) 0 _ _ (omega arith) (fits .inCols)))
+-- the turn's second place
+right : (c : tie.In-loop Inv-loop μ-loop) → let x = c .before .before .before .before .before .args in Beside (x .n) (c .before .loop .i) (x .k)
+right c = beside _ _ _ (omega arith) (omega arith)
 
 loop-again : tie.Need-loop-again Inv-loop μ-loop
 loop-again c =
-    let inv = c .before .before .before .before .before .loop .inv in (
-      inv .0,
-      omega arith,
-      simp length-set (omega arith),
-      rw (c .before .before .before .at .ensures .0, c .before .before .at2 .ensures .0) (turn-across _ _ _ _ _ _ (inv .0 .size) (omega arith) (inv .0 .inCols) (inv .3)),
-    )
-
-returns-2 : tie.Need-returns-2 Inv-loop μ-loop
-unfolding rotatedRows onEntries
-returns-2 c =
-    rw (inside (from-row-0 _ _ _ _ (c .before .before .before .block-fits .ensures)) (c .before .before .if1 .left))
-    (c .before .loop .inv .3 ∙ inBlock-rows-done _ _ _ _ _ _ _ (omega arith) (omega arith))
+    let inv = c .before .before .before .before .loop .inv in
+    across-more inv (omega arith) (rw (c .before .before .at .ensures .0) (turn-across _ _ _ _ _ _ (inv .fits .size) (omega arith) (inv .fits .inCols) (inv .done)))
 
 pub rotate-rows-spec : {M : Type 1} → statement M
-rotate-rows-spec =
-    tie.close
-    (tie.spec
-    Inv-loop
-    μ-loop
-    (λ c κs. omega arith)
-    returns
-    loop-holds
-    (λ c κs. omega arith) (λ c. omega arith) (λ c κs. omega arith) (λ c. omega arith) (λ c. omega arith) (λ c. omega arith) (λ c. omega arith)
-    (λ c. omega arith) (λ c. omega arith) (λ c. omega arith) (λ c. simp length-set (omega arith)) (λ c. omega arith) (λ c. omega arith)
+unfolding rotatedRows
+rotate-rows-spec = tie.close (tie.spec Inv-loop μ-loop (λ c κs. omega arith)
+    (λ c. across-refused _ _ _ _ _ _ (c .before .block-fits .ensures) (c .if1 .taken))
+    (λ c. across-begun _ _ _ _ _ _ (c .before .block-fits .ensures) (c .if1 .left))
+    (λ c κs. omega arith) (λ c. omega arith) (λ c. omega arith) (λ c. omega arith) (λ c. omega arith) (λ c. omega (arith, right (c .before .before .before)))
+    (λ c. omega arith) (λ c. omega arith) (λ c. omega arith) (λ c. simp length-set (omega (arith, right (c .before .before .before)))) (λ c. omega arith) (λ c. omega arith)
     loop-again
     (λ c. omega arith)
-    returns-2)
+    (λ c. across-done (c .before .loop .inv) (omega arith)))

@@ -1,21 +1,17 @@
 -- `reflection::columns::reflect_with_sign` meets its contract. Assumes nothing.
-use mathlib.Core.Path.{_≡_, sym, _∙_}
-use Prim.Native.Nat.{_+_, _*_, _-_, _≤_, max}
+use Prim.Native.Nat.{_+_, _-_}
 use native.Mathlib.Omega.{arith}
 use lib.ListN.{length}
 use Rattle.loops.specs.Place.{Column, column}
 use Rattle.matrix.specs.Sum.{lanes}
-use Rattle.matrix.specs.Entries.{inBlock, onEntries}
-use Rattle.matrix.proofs.Fitting.{Fits, within, inside, outside, from-column-0}
-use Rattle.matrix.proofs.Blocks.{inBlock-no-columns, inBlock-columns-done}
+use Rattle.matrix.proofs.Walks.{Down, down-refused, down-begun, down-more, down-done}
 use Rattle.reflection.specs.Reflected.{mirroredColumns, reflected}
 use Rattle.reflection.proofs.ColumnTurn.{column-turn}
 use Rattle.reflection.proofs.columns.reflect_with_sign.Statement.{statement}
 use Rattle.reflection.proofs.columns.reflect_with_sign.Tie as tie
 
 abbrev Inv-loop : tie.InvT-loop
-Inv-loop a t₀ n row c0 c1 sign m-two j₀ t j = Fits n (length t₀) (row + length a) c1 × (c0 ≤ j) × (j ≤ max c0 c1) × (length t ≡ n * n)
-    × (t ≡ inBlock n row (row + length a) c0 j (mirroredColumns lanes a sign n row t₀) t₀)
+Inv-loop a t₀ n row c0 c1 sign m-two j₀ t j = Down n row (row + length a) c0 c1 (mirroredColumns lanes a sign n row t₀) t₀ j t
 
 abbrev μ-loop : tie.MeasureT-loop
 μ-loop a t₀ n row c0 c1 sign m-two j₀ t j = c1 - j
@@ -24,51 +20,23 @@ abbrev μ-loop : tie.MeasureT-loop
 turn : (c : tie.In-loop Inv-loop μ-loop) → Column (c .before .before .before .before .before .before .args .n) (c .before .loop .j)
 turn c = column _ _ (omega arith) (omega arith)
 
-returns : tie.Need-returns Inv-loop μ-loop
-unfolding reflected onEntries
-returns c = rw (outside (from-column-0 _ _ _ _ (c .before .block-fits .ensures)) (c .if1 .taken))
-
-loop-holds : tie.Need-loop-holds Inv-loop μ-loop
-loop-holds c =
-    let fits = within _ _ _ _ (from-column-0 _ _ _ _ (c .before .block-fits .ensures)) (c .if1 .left) in
-    (fits, omega arith, omega arith, omega arith, sym (inBlock-no-columns _ _ _ _ _ _))
-
 loop-again : tie.Need-loop-again Inv-loop μ-loop
 loop-again c =
     let inv = c .before .before .before .before .before .before .before .before .loop .inv in
-    let here = turn (c .before .before .before .before .before .before .before) in (
-      inv .0,
-      omega arith,
-      omega arith,
-      omega arith,
-      rw (c .before .before .axpy .ensures, c .before .before .before .before .dot .ensures) (column-turn _ _ _ _ _ _ _ _ (inv .0 .inRows) (omega arith) (inv .1) (inv .4)),
-    )
-
-returns-2 : tie.Need-returns-2 Inv-loop μ-loop
-unfolding reflected onEntries
-returns-2 c =
-    rw (inside (from-column-0 _ _ _ _ (c .before .before .before .block-fits .ensures)) (c .before .before .if1 .left))
-    (c .before .loop .inv .4 ∙ inBlock-columns-done _ _ _ _ _ _ _ _ (omega arith) (omega arith) (omega arith))
+    let here = turn (c .before .before .before .before .before .before .before) in
+    down-more inv (omega arith)
+    (rw (c .before .before .axpy .ensures, c .before .before .before .before .dot .ensures) (column-turn _ _ _ _ _ _ _ _ (inv .fits .inRows) (omega arith) (inv .from) (inv .done)))
 
 pub reflect-with-sign-spec : {M : Type 1} → statement M
-reflect-with-sign-spec =
-    tie.close
-    (tie.spec
-    Inv-loop
-    μ-loop
-    (λ c κs. omega arith)
-    returns
-    loop-holds
-    (λ c. omega (arith, turn c))
-    (λ c. omega (arith, turn c))
-    (λ c. omega (arith, turn c))
-    (λ c. omega (arith, turn c))
-    (λ c. omega (arith, turn c))
-    (λ c. omega (arith, turn (c .before)))
-    (λ c. omega (arith, turn (c .before)))
+unfolding reflected
+reflect-with-sign-spec = tie.close (tie.spec Inv-loop μ-loop (λ c κs. omega arith)
+    (λ c. down-refused _ _ _ _ _ _ _ (c .before .block-fits .ensures) (c .if1 .taken))
+    (λ c. down-begun _ _ _ _ _ _ _ (c .before .block-fits .ensures) (c .if1 .left))
+    (λ c. omega (arith, turn c)) (λ c. omega (arith, turn c)) (λ c. omega (arith, turn c)) (λ c. omega (arith, turn c)) (λ c. omega (arith, turn c))
+    (λ c. omega (arith, turn (c .before))) (λ c. omega (arith, turn (c .before)))
     (λ c κs. omega (arith, turn (c .before .before)))
     (λ c κs. omega (arith, turn (c .before .before .before .before)))
     (λ c. omega arith) (λ c. omega arith)
     loop-again
     (λ c. omega arith)
-    returns-2)
+    (λ c. down-done (c .before .loop .inv) (omega arith)))
