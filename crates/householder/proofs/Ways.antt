@@ -1,6 +1,5 @@
--- The axis by its ways. `axis-none` and `axis-made` take the numbers as a routine has them in hand: the square of the norm, the norm, the first
--- number's magnitude and sign. Assumes nothing.
-use mathlib.Core.Path.{_≡_, refl, sym, ap, _∙_}
+-- The axis by its ways, told of the numbers that a routine has in hand. Assumes nothing.
+use mathlib.Core.Path.{_≡_, refl, sym, _∙_}
 use mathlib.Core.Logic.{_≢_}
 use mathlib.Core.Bool.{Bool, true, false, cond}
 use mathlib.Core.List.{List}
@@ -13,7 +12,6 @@ use Rattle.loops.specs.Rounded.{_⊕_, _⊗_, _!_}
 use Rattle.scalar.specs.Root.{rootOf}
 use Rattle.scalar.specs.Sign.{toExpOf}
 use Rattle.scalar.specs.Class.{isZero}
-use Rattle.scalar.specs.declared.sign.Exp.{Exp}
 use Rattle.matrix.specs.Sum.{Order}
 use Rattle.matrix.specs.Vectors.{normSquared, normOf, unscaled, normalized}
 use Rattle.matrix.proofs.Each.{eachTo-length}
@@ -30,29 +28,33 @@ unfolding inWay
 alike sum c true = refl
 alike sum c false = refl
 
+-- a column with a number, by whether its factor is zero
+axis-by : (sum : Order) (c : List Float) (b : Bool) → length c ≢ 0 → isZero (factorOf sum c) ≡ b → axisOf sum c ≡ inWay sum c (cond b (cond (allZero c) AllZero TooSmall) Reflected)
+unfolding axisOf wayOf
+axis-by sum c b h z = rw (ne-eqb _ _ h, z)
+
+-- x is the signed norm, and f the factor, of a column with a number
+pub record Measured (sum : Order) (c : List Float) (x f : Float) : Type 0 where
+  pub some : length c ≢ 0
+  pub norm : x ≡ signedNorm sum c
+  pub factor : f ≡ factorOf sum c
+
+-- as the routine `measure` tells them, from the sum of the squares and the first number
+pub measured : (sum : Order) (c : List Float) (sq x f : Float) → length c ≢ 0 → sq ≡ normSquared sum c
+    → (x ≡ toExpOf (c ! 0) .sign ⊗ rootOf sq) × (f ≡ (sq ⊕ toExpOf (c ! 0) .magnitude ⊗ rootOf sq) ⊗ two) → Measured sum c x f
+unfolding signedNorm factorOf normOf
+measured sum c sq x f h a m = record { some = h; norm = m .0 ∙ rw a; factor = m .1 ∙ rw a }
+
 -- no reflection: the factor is zero
-pub axis-none : (sum : Order) (c : List Float) (sq norm : Float) (e : Exp) → length c ≢ 0 → sq ≡ normSquared sum c → norm ≡ rootOf sq → e ≡ toExpOf (c ! 0)
-    → isZero ((sq ⊕ e .magnitude ⊗ norm) ⊗ two) ≡ true
-    → told (set c 0 ((c ! 0) ⊕ e .sign ⊗ norm)) (e .sign ⊗ norm) false ≡ axisOf sum c
-unfolding axisOf wayOf factorOf signedNorm shifted normOf
-axis-none sum c sq norm e h a b d z =
-    let zero-factor : isZero (factorOf sum c) ≡ true = rw (← a, ← b, ← d) z in
-    let way : wayOf sum c ≡ cond (allZero c) AllZero TooSmall = ap (λ b. cond b (cond (allZero c) AllZero TooSmall) Reflected) zero-factor in
-    let here : axisOf sum c ≡ inWay sum c (wayOf sum c) = rw (ne-eqb _ _ h) in
-    let left : told (shifted sum c) (signedNorm sum c) false ≡ told (set c 0 ((c ! 0) ⊕ e .sign ⊗ norm)) (e .sign ⊗ norm) false = rw (← a, ← b, ← d) in
-    sym (here ∙ ap (inWay sum c) way ∙ alike sum c (allZero c) ∙ left)
+pub axis-none : {sum : Order} {c : List Float} {x f : Float} → Measured sum c x f → isZero f ≡ true → told (set c 0 ((c ! 0) ⊕ x)) x false ≡ axisOf sum c
+unfolding shifted
+axis-none {sum} {c} {x} {f} m z = sym (axis-by sum c true (m .some) (rw (← m .factor) z) ∙ alike sum c (allZero c) ∙ rw (m .norm))
 
 -- a reflection: the factor is not zero
-pub axis-made : (sum : Order) (c : List Float) (sq norm : Float) (e : Exp) → length c ≢ 0 → sq ≡ normSquared sum c → norm ≡ rootOf sq → e ≡ toExpOf (c ! 0)
-    → isZero ((sq ⊕ e .magnitude ⊗ norm) ⊗ two) ≡ false
-    → told (normalized sum (unscaled (rootOf ((sq ⊕ e .magnitude ⊗ norm) ⊗ two)) (set c 0 ((c ! 0) ⊕ e .sign ⊗ norm)))) (neg (e .sign ⊗ norm)) true ≡ axisOf sum c
-unfolding axisOf wayOf inWay factorOf signedNorm shifted normOf
-axis-made sum c sq norm e h a b d z =
-    let some-factor : isZero (factorOf sum c) ≡ false = rw (← a, ← b, ← d) z in
-    let way : wayOf sum c ≡ Reflected = ap (λ b. cond b (cond (allZero c) AllZero TooSmall) Reflected) some-factor in
-    let here : axisOf sum c ≡ inWay sum c (wayOf sum c) = rw (ne-eqb _ _ h) in
-    let made : inWay sum c Reflected ≡ told (normalized sum (unscaled (rootOf ((sq ⊕ e .magnitude ⊗ norm) ⊗ two)) (set c 0 ((c ! 0) ⊕ e .sign ⊗ norm)))) (neg (e .sign ⊗ norm)) true = rw (← a, ← b, ← d) in
-    sym (here ∙ ap (inWay sum c) way ∙ made)
+pub axis-made : {sum : Order} {c : List Float} {x f : Float} → Measured sum c x f → isZero f ≡ false
+    → told (normalized sum (unscaled (rootOf f) (set c 0 ((c ! 0) ⊕ x)))) (neg x) true ≡ axisOf sum c
+unfolding shifted inWay
+axis-made {sum} {c} {x} {f} m z = sym (axis-by sum c false (m .some) (rw (← m .factor) z) ∙ rw (m .norm, m .factor))
 
 -- ---- the axis is as long as its column
 

@@ -2,25 +2,14 @@
 ghost use mathlib.Core.Path.{_≡_};
 ghost use lib.ListN.{length};
 ghost use Prim.Native.Nat.{_*_, _≤_};
-ghost use Rattle.loops.specs.Constants.{zero};
-ghost use Rattle.matrix.specs.Vectors.{each};
 ghost use Rattle.householder.specs.Assembled.{identity, assembled};
-
-// +0 throughout.
-fn clear(q: &mut [f64])
-    ensures { λ _. ⌜ now (q .exit) ≡ each (λ _. zero) (now (q .entry)) ⌝ }
-{
-    for p in 0..q.len() {
-        q[p] = 0.0;
-    }
-}
 
 // 1 on the diagonal of the matrix q of order n, +0 elsewhere.
 fn fill_with_identity(q: &mut [f64], n: usize)
     requires { ⌜ (n ≤ 64) × (length (now q) ≡ n * n) ⌝ }
     ensures { λ _. ⌜ now (q .exit) ≡ identity n (now (q .entry)) ⌝ }
 {
-    clear(q);
+    matrix::fill(q, 0.0);
     for i in 0..n {
         let p = i * n + i;
         q[p] = 1.0;

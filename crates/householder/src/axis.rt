@@ -1,5 +1,9 @@
 // The axis of the reflection that takes a column to a multiple of the first unit vector.
 ghost use mathlib.Core.Path.{_≡_};
+ghost use Rattle.loops.specs.Constants.{two as twoF};
+ghost use Rattle.loops.specs.Rounded.{_⊕_, _⊗_};
+ghost use Rattle.scalar.specs.Root.{rootOf};
+ghost use Rattle.scalar.specs.Sign.{toExpOf};
 ghost use Rattle.matrix.specs.Sum.{bare, lanes};
 ghost use Rattle.matrix.specs.Vectors.{two, three};
 ghost use Rattle.householder.specs.Axis.{told, axisOf};
@@ -26,6 +30,27 @@ pub struct Axis2 {
     pub reflected: bool,
 }
 
+// The norm with the sign of the column's first number, and the factor: the square of the norm that the
+// column has once that is added to its first number.
+struct Measured {
+    norm: f64,
+    factor: f64,
+}
+
+// By the sum of the column's squares and its first number.
+fn measure(squares: f64, first: f64) -> Measured
+    ensures { λ r.
+        ⌜ (r .norm ≡ toExpOf first .sign ⊗ rootOf squares)
+        × (r .factor ≡ (squares ⊕ toExpOf first .magnitude ⊗ rootOf squares) ⊗ twoF) ⌝ }
+{
+    let norm = scalar::sqrt(squares);
+    let exp = scalar::to_exp(first);
+    Measured {
+        norm: exp.sign * norm,
+        factor: (squares + exp.magnitude * norm) * 2.0,
+    }
+}
+
 // The column is rewritten: it becomes the axis, of length 1. An empty one has none.
 pub fn reflection_axis_mut(column: &mut [f64]) -> Axis
     ensures { λ r. ⌜ told (now (column .exit)) (r .norm) (r .reflected) ≡ axisOf lanes (now (column .entry)) ⌝ }
@@ -37,24 +62,21 @@ pub fn reflection_axis_mut(column: &mut [f64]) -> Axis
         };
     }
     let sq_norm = matrix::norm_squared(column);
-    let norm = scalar::sqrt(sq_norm);
     let first = column[0];
-    let exp = scalar::to_exp(first);
-    let signed_norm = exp.sign * norm;
-    let factor = (sq_norm + exp.magnitude * norm) * 2.0;
-    column[0] = first + signed_norm;
-    if scalar::is_zero(factor) {
+    let m = measure(sq_norm, first);
+    column[0] = first + m.norm;
+    if scalar::is_zero(m.factor) {
         return Axis {
-            norm: signed_norm,
+            norm: m.norm,
             reflected: false,
         };
     }
-    let root = scalar::sqrt(factor);
+    let root = scalar::sqrt(m.factor);
     matrix::unscale_mut(column, root);
     // Once more: after a small factor the axis may be some way from length 1.
     matrix::normalize_mut(column);
     Axis {
-        norm: -signed_norm,
+        norm: -m.norm,
         reflected: true,
     }
 }
@@ -63,27 +85,22 @@ pub fn reflection_axis_mut(column: &mut [f64]) -> Axis
 pub fn reflection_axis3(column: Vector3) -> Axis3
     ensures { λ r. ⌜ told (three (r .axis)) (r .norm) (r .reflected) ≡ axisOf bare (three column) ⌝ }
 {
-    let sq_norm = column.norm_squared();
-    let norm = scalar::sqrt(sq_norm);
-    let exp = scalar::to_exp(column.x);
-    let signed_norm = exp.sign * norm;
-    let factor = (sq_norm + exp.magnitude * norm) * 2.0;
+    let m = measure(column.norm_squared(), column.x);
     let shifted = Vector3 {
-        x: column.x + signed_norm,
+        x: column.x + m.norm,
         y: column.y,
         z: column.z,
     };
-    if scalar::is_zero(factor) {
+    if scalar::is_zero(m.factor) {
         return Axis3 {
             axis: shifted,
-            norm: signed_norm,
+            norm: m.norm,
             reflected: false,
         };
     }
-    let axis = shifted.unscale(scalar::sqrt(factor)).normalize();
     Axis3 {
-        axis,
-        norm: -signed_norm,
+        axis: shifted.unscale(scalar::sqrt(m.factor)).normalize(),
+        norm: -m.norm,
         reflected: true,
     }
 }
@@ -92,26 +109,21 @@ pub fn reflection_axis3(column: Vector3) -> Axis3
 pub fn reflection_axis2(column: Vector2) -> Axis2
     ensures { λ r. ⌜ told (two (r .axis)) (r .norm) (r .reflected) ≡ axisOf bare (two column) ⌝ }
 {
-    let sq_norm = column.norm_squared();
-    let norm = scalar::sqrt(sq_norm);
-    let exp = scalar::to_exp(column.x);
-    let signed_norm = exp.sign * norm;
-    let factor = (sq_norm + exp.magnitude * norm) * 2.0;
+    let m = measure(column.norm_squared(), column.x);
     let shifted = Vector2 {
-        x: column.x + signed_norm,
+        x: column.x + m.norm,
         y: column.y,
     };
-    if scalar::is_zero(factor) {
+    if scalar::is_zero(m.factor) {
         return Axis2 {
             axis: shifted,
-            norm: signed_norm,
+            norm: m.norm,
             reflected: false,
         };
     }
-    let axis = shifted.unscale(scalar::sqrt(factor)).normalize();
     Axis2 {
-        axis,
-        norm: -signed_norm,
+        axis: shifted.unscale(scalar::sqrt(m.factor)).normalize(),
+        norm: -m.norm,
         reflected: true,
     }
 }

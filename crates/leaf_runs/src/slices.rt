@@ -43,7 +43,7 @@ fn normalize(x: &mut [f64], seed: usize) {
     line(b"normalize_mut", x, seed);
 }
 
-// The factor is the number that would come next.
+// By, or with, the number that would come next.
 fn scale(x: &mut [f64], seed: usize) {
     fill(x, seed);
     matrix::scale_mut(x, drawn(seed, x.len()));
@@ -51,6 +51,8 @@ fn scale(x: &mut [f64], seed: usize) {
     fill(x, seed);
     matrix::unscale_mut(x, drawn(seed, x.len()));
     line(b"unscale_mut", x, seed);
+    matrix::fill(x, drawn(seed, x.len()));
+    line(b"fill", x, seed);
 }
 
 // The norm, whether there is a reflection, and the column.

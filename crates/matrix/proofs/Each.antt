@@ -9,7 +9,7 @@ use lib.Seq.{getD-set-same, getD-set-other, ext-getD}
 use lib.Ieee.{Float, nan}
 use Rattle.loops.specs.Rounded.{_!_}
 use Rattle.loops.specs.Times.{times-none, times-more, times-done, times-same, times-length, times-frame, times-at}
-use Rattle.matrix.specs.Vectors.{eachTo}
+use Rattle.matrix.specs.Vectors.{eachTo, filled}
 
 -- ---- a loop that rewrites them one by one: before the first turn, one more, all done
 
@@ -83,3 +83,13 @@ eachTo-twice k g h t l =
         ∙ sym (eachTo-at k _ t i m l)
     go i (no m) =
         eachTo-past k h _ i (omega arith) ∙ eachTo-past k g t i (omega arith) ∙ sym (eachTo-past k _ t i (omega arith))
+
+-- ---- one number throughout
+
+pub filled-length : (x : Float) (t : List Float) → length (filled x t) ≡ length t
+unfolding filled
+filled-length x t = eachTo-length _ _ t
+
+pub filled-at : (x : Float) (t : List Float) (i : ℕ) → i < length t → filled x t ! i ≡ x
+unfolding filled
+filled-at x t i h = eachTo-at (length t) _ t i h (omega arith)

@@ -45,6 +45,10 @@ eachTo k g t = times (λ i s. set s i (g i (s ! i))) k t
 abbrev pub each : (Float → Float) → List Float → List Float
 each f t = eachTo (length t) (λ _ e. f e) t
 
+-- each number is x
+unfoldable pub filled : Float → List Float → List Float
+filled x t = each (λ _. x) t
+
 -- each number times x; each divided by x, one division for each; each divided by the norm
 unfoldable pub scaled : Float → List Float → List Float
 scaled x t = each (λ e. e ⊗ x) t

@@ -1,6 +1,7 @@
 // Sums and building stones on a matrix that lies column by column in one slice.
 mod blas;
 mod block;
+mod edition;
 mod min_max;
 mod norms;
 mod product;
@@ -11,6 +12,7 @@ pub use blas::dot;
 pub use block::block_fits;
 pub use block::entry;
 pub use block::put;
+pub use edition::fill;
 pub use min_max::camax;
 pub use norms::norm;
 pub use norms::norm_squared;

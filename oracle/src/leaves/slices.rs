@@ -35,6 +35,7 @@ fn scale(page: &mut Page, len: usize, seed: usize) {
     let mut x = many(len, seed);
     plain::unscale(&mut x, factor);
     page.line("unscale_mut", &[len, seed], &x);
+    page.line("fill", &[len, seed], &vec![factor; len]);
 }
 
 fn axis(page: &mut Page, len: usize, seed: usize) {

@@ -12,10 +12,6 @@ abbrev μ-loop : tie.MeasureT-loop
 μ-loop i₀ i = 55 - i
 
 pub main-spec : {M : Type 1} → statement M
-main-spec =
-    tie.close
-    (tie.spec
-    Inv-loop
-    μ-loop
+main-spec = tie.close (tie.spec Inv-loop μ-loop
     (λ c. search needs) (λ c κs. search needs) (λ c. omega arith) (λ c. omega arith) (λ c. omega arith) (λ c κs. search needs) (λ c. omega arith)
     (λ c. omega arith) (λ c. omega arith) (λ c. search needs))

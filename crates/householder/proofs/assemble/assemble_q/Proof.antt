@@ -80,11 +80,7 @@ returns-5 c =
     sym (down-none _ _) ∙ rw e at (c .before .loop .inv .5) ∙ rw (c .before .before .before .before .fill-with-identity .ensures) (sym (passed (c .before .before .before .before .before .before)))
 
 pub assemble-q-spec : {M : Type 1} → statement M
-assemble-q-spec =
-    tie.close
-    (tie.spec
-    Inv-loop
-    μ-loop
+assemble-q-spec = tie.close (tie.spec Inv-loop μ-loop
     (λ c κs. omega arith)
     returns
     (λ c κs. omega arith)

@@ -26,14 +26,10 @@ returns c =
     let n = c .before .before .before .before .before .before .before .args .n in
     c .before .loop .inv .3
     ∙ times-done (ones n) _ n _ (omega arith) (omega arith)
-    ∙ rw (c .before .before .before .before .clear .ensures) (ones-identity _ _ (omega arith) (omega arith))
+    ∙ rw (c .before .before .before .before .fill .ensures) (ones-identity _ _ (omega arith) (omega arith))
 
 pub fill-with-identity-spec : {M : Type 1} → statement M
-fill-with-identity-spec =
-    tie.close
-    (tie.spec
-    Inv-loop
-    μ-loop
+fill-with-identity-spec = tie.close (tie.spec Inv-loop μ-loop
     (λ c κs. omega arith)
     (λ c. (omega arith, omega arith, omega arith, sym (times-none _ _)))
     (λ c. omega (arith, spot c))

@@ -3,7 +3,7 @@ use mathlib.Core.Path.{sym, _∙_}
 use native.Mathlib.Omega.{arith}
 use borrow.Author.Needs.{needs}
 use lib.ListN.{length-set}
-use Rattle.householder.proofs.Ways.{axis-empty, axis-none, axis-made}
+use Rattle.householder.proofs.Ways.{measured, axis-empty, axis-none, axis-made}
 use Rattle.householder.proofs.axis.reflection_axis_mut.Statement.{statement}
 use Rattle.householder.proofs.axis.reflection_axis_mut.Tie as tie
 
@@ -12,21 +12,19 @@ returns c = axis-empty _ _ (c .if1 .taken)
 
 returns-2 : tie.Need-returns-2
 returns-2 c =
-    axis-none _ _ _ _ _ (c .before .before .before .before .before .before .before .before .before .if1 .left) (c .before .before .before .before .before .before .before .norm-squared .ensures) (c .before .before .before .before .before .before .sqrt .ensures) (c .before .before .before .before .to-exp .ensures) (sym (c .before .is-zero .ensures) ∙ c .if2 .taken)
+    axis-none (measured _ _ _ _ _ (c .before .before .before .before .before .before .before .if1 .left) (c .before .before .before .before .before .norm-squared .ensures) (c .before .before .before .measure .ensures)) (sym (c .before .is-zero .ensures) ∙ c .if2 .taken)
 
 returns-3 : tie.Need-returns-3
 returns-3 c =
-    rw (c .before .before .normalize-mut .ensures, c .before .before .before .before .before .before .unscale-mut .ensures, c .before .before .before .before .before .before .before .before .sqrt2 .ensures)
-    (axis-made _ _ _ _ _ (c .before .before .before .before .before .before .before .before .before .before .before .before .before .before .before .before .before .before .if1 .left) (c .before .before .before .before .before .before .before .before .before .before .before .before .before .before .before .before .norm-squared .ensures) (c .before .before .before .before .before .before .before .before .before .before .before .before .before .before .before .sqrt .ensures) (c .before .before .before .before .before .before .before .before .before .before .before .before .before .to-exp .ensures) (sym (c .before .before .before .before .before .before .before .before .before .before .is-zero .ensures) ∙ c .before .before .before .before .before .before .before .before .before .if2 .left))
+    rw (c .before .before .before .normalize-mut .ensures, c .before .before .before .before .before .before .before .unscale-mut .ensures, c .before .before .before .before .before .before .before .before .before .sqrt .ensures)
+    (axis-made (measured _ _ _ _ _ (c .before .before .before .before .before .before .before .before .before .before .before .before .before .before .before .before .before .if1 .left) (c .before .before .before .before .before .before .before .before .before .before .before .before .before .before .before .norm-squared .ensures) (c .before .before .before .before .before .before .before .before .before .before .before .before .before .measure .ensures)) (sym (c .before .before .before .before .before .before .before .before .before .before .before .is-zero .ensures) ∙ c .before .before .before .before .before .before .before .before .before .before .if2 .left))
 
 pub reflection-axis-mut-spec : {M : Type 1} → statement M
-reflection-axis-mut-spec =
-    tie.close
-    (tie.spec
+reflection-axis-mut-spec = tie.close (tie.spec
     returns
-    (λ c κs. search needs) (λ c κs. search needs) (λ c. search needs) (λ c κs. search needs) (λ c. search needs) (λ c κs. search needs)
+    (λ c κs. search needs) (λ c. search needs) (λ c κs. search needs) (λ c. search needs) (λ c κs. search needs)
     (λ c. search needs)
     returns-2
     (λ c κs. search needs) (λ c κs. search needs) (λ c κs. search needs)
-    (λ c. omega (arith, simp length-set at (c .before .before .before .before .before .before .unscale-mut .kept .0)))
+    (λ c. omega (arith, simp length-set at (c .before .before .before .before .before .before .before .unscale-mut .kept .0)))
     returns-3)

@@ -61,9 +61,7 @@ returns-4 c =
     )
 
 pub clear-column-spec : {M : Type 1} → statement M
-clear-column-spec =
-    tie.close
-    (tie.spec
+clear-column-spec = tie.close (tie.spec
     (λ c κs. search needs) (λ c κs. search needs)
     returns
     (λ c κs. search needs)

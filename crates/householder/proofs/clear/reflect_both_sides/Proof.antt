@@ -25,9 +25,7 @@ returns c =
     (rw (c .before .before .reflect-with-sign .ensures, c .before .before .before .before .before .before .before .before .reflect-rows-with-sign .ensures, c .before .before .before .before .before .before .before .before .before .before .before .before .before .before .copy-from .ensures, front (c .before .before .before .before .before .before .before .before .before .before .before .before .before .before .before .before .before .before .before .before)), c .before .before .before .before .before .before .before .before .before .before .before .before .before .before .copy-from .ensures)
 
 pub reflect-both-sides-spec : {M : Type 1} → statement M
-reflect-both-sides-spec =
-    tie.close
-    (tie.spec
+reflect-both-sides-spec = tie.close (tie.spec
     (λ c. omega arith)
     (λ c. omega (arith, bounds (c .before .before)))
     (λ c. omega (arith, bounds (c .before .before)))

@@ -12,11 +12,7 @@ abbrev μ-loop : tie.MeasureT-loop
 μ-loop seed₀ seed = 16 - seed
 
 pub seeds-spec : {M : Type 1} → statement M
-seeds-spec =
-    tie.close
-    (tie.spec
-    Inv-loop
-    μ-loop
+seeds-spec = tie.close (tie.spec Inv-loop μ-loop
     (λ c. search needs) (λ c κs. search needs) (λ c κs. search needs) (λ c. omega arith) (λ c κs. search needs) (λ c. omega arith) (λ c. omega arith)
     (λ c. omega arith) (λ c κs. search needs) (λ c κs. search needs) (λ c κs. search needs) (λ c κs. search needs) (λ c κs. search needs)
     (λ c κs. search needs) (λ c. search needs))

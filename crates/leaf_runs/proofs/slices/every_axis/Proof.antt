@@ -13,15 +13,5 @@ abbrev μ-loop : tie.MeasureT-loop
 μ-loop x₀ seed₀ x seed = 16 - seed
 
 pub every-axis-spec : {M : Type 1} → statement M
-every-axis-spec =
-    tie.close
-    (tie.spec
-    Inv-loop
-    μ-loop
-    (λ c. search needs)
-    (λ c κs. search needs)
-    (λ c. search needs)
-    (λ c. search needs)
-    (λ c. search needs)
-    (λ c. search needs)
-    (λ c. search needs))
+every-axis-spec = tie.close (tie.spec Inv-loop μ-loop (λ c. search needs) (λ c κs. search needs) (λ c. search needs) (λ c. search needs)
+    (λ c. search needs) (λ c. search needs) (λ c. search needs))

@@ -88,13 +88,7 @@ returns-2 c =
     ∙ moved-done (inv .1) _ _ (omega arith) (omega arith) (rw (← inv .2, ← inv .3, ← inv .4, ← inv .5, ← inv .6, ← inv .7, ← inv .8, ← inv .9))
 
 pub dot-spec : {M : Type 1} → statement M
-dot-spec =
-    tie.close
-    (tie.spec
-    Inv-loop
-    μ-loop
-    Inv-loop2
-    μ-loop2
+dot-spec = tie.close (tie.spec Inv-loop μ-loop Inv-loop2 μ-loop2
     (λ c κs. search needs)
     returns
     loop-holds

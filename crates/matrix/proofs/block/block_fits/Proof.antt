@@ -51,9 +51,7 @@ returns-4 c =
     )
 
 pub block-fits-spec : {M : Type 1} → statement M
-block-fits-spec =
-    tie.close
-    (tie.spec
+block-fits-spec = tie.close (tie.spec
     (λ c κs. search needs)
     returns
     returns-2

@@ -15,9 +15,7 @@ unfolding entryOf
 returns-2 c = rw (inside (c .before .before .block-fits .ensures) (c .before .if1 .left))
 
 pub entry-spec : {M : Type 1} → statement M
-entry-spec =
-    tie.close
-    (tie.spec
+entry-spec = tie.close (tie.spec
     (λ c κs. search needs) (λ c κs. search needs)
     returns
     (λ c. omega (arith, spot _ _ _ _ (c .before .block-fits .ensures) (c .if1 .left)))

@@ -16,9 +16,7 @@ unfolding putOf onEntries
 returns-2 c = rw (inside (c .before .block-fits .ensures) (c .if1 .left), inBlock-one)
 
 pub put-spec : {M : Type 1} → statement M
-put-spec =
-    tie.close
-    (tie.spec
+put-spec = tie.close (tie.spec
     (λ c κs. search needs)
     returns
     (λ c. omega (arith, spot _ _ _ _ (c .before .block-fits .ensures) (c .if1 .left)))

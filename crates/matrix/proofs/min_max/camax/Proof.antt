@@ -40,11 +40,7 @@ returns-2 c =
     (c .before .loop .inv .2 ∙ range-done _ _ _ _ _ (omega arith) (omega arith) (omega arith))
 
 pub camax-spec : {M : Type 1} → statement M
-camax-spec =
-    tie.close
-    (tie.spec
-    Inv-loop
-    μ-loop
+camax-spec = tie.close (tie.spec Inv-loop μ-loop
     returns
     (λ c. omega arith) (λ c κs. search needs)
     loop-holds

@@ -133,11 +133,7 @@ returns-4 c =
     rw (passed (c .before .before .before .before .before .before .before .before)) (inv .6 ∙ rw (begun (c .before .before .before .before), e) (over _ _ _ _ _ _ _ _ (omega arith)))
 
 pub mul-to-spec : {M : Type 1} → statement M
-mul-to-spec =
-    tie.close
-    (tie.spec
-    Inv-loop
-    μ-loop
+mul-to-spec = tie.close (tie.spec Inv-loop μ-loop
     (λ c κs. search needs)
     returns
     returns-2

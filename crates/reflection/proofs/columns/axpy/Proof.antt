@@ -27,11 +27,7 @@ unfolding axpyOf
 returns c = c .before .loop .inv .2 ∙ times-done _ _ _ _ (omega arith) (omega arith)
 
 pub axpy-spec : {M : Type 1} → statement M
-axpy-spec =
-    tie.close
-    (tie.spec
-    Inv-loop
-    μ-loop
+axpy-spec = tie.close (tie.spec Inv-loop μ-loop
     loop-holds
     (λ c. omega arith) (λ c. omega arith) (λ c. omega arith) (λ c. omega arith) (λ c. omega arith) (λ c. omega arith) (λ c. omega arith)
     (λ c. omega arith) (λ c. omega arith)

@@ -35,11 +35,7 @@ returns : tie.Need-returns Inv-loop μ-loop
 returns c = c .before .loop .inv .3 ∙ inBlock-columns-done _ _ _ _ _ _ _ _ (omega arith) (omega arith) (omega arith)
 
 pub four-rows-spec : {M : Type 1} → statement M
-four-rows-spec =
-    tie.close
-    (tie.spec
-    Inv-loop
-    μ-loop
+four-rows-spec = tie.close (tie.spec Inv-loop μ-loop
     (λ c κs. omega arith)
     loop-holds
     (λ c. omega arith) (λ c κs. omega arith) (λ c. omega arith) (λ c. omega arith) (λ c κs. omega arith) (λ c. omega arith) (λ c. omega arith)

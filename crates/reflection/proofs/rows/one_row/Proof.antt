@@ -34,11 +34,7 @@ returns : tie.Need-returns Inv-loop μ-loop
 returns c = c .before .loop .inv .3 ∙ inBlock-columns-done _ _ _ _ _ _ _ _ (omega arith) (omega arith) (omega arith)
 
 pub one-row-spec : {M : Type 1} → statement M
-one-row-spec =
-    tie.close
-    (tie.spec
-    Inv-loop
-    μ-loop
+one-row-spec = tie.close (tie.spec Inv-loop μ-loop
     (λ c κs. omega arith)
     loop-holds
     (λ c. omega arith) (λ c κs. omega arith) (λ c. omega arith) (λ c. omega arith) (λ c. omega arith) (λ c. omega arith) (λ c. omega arith)

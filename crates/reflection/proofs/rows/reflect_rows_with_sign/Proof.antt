@@ -82,13 +82,7 @@ returns-3 c =
     (inv2 .5 ∙ rw e (rows-more (x .a .now) (x .sign) _ _ _ _ _ (x .t .now) _ (inv .0 .size) (omega arith) (omega arith) (omega arith) (inv .0 .inCols) (rw f at (inv .5))))
 
 pub reflect-rows-with-sign-spec : {M : Type 1} → statement M
-reflect-rows-with-sign-spec =
-    tie.close
-    (tie.spec
-    Inv-loop
-    μ-loop
-    Inv-loop2
-    μ-loop2
+reflect-rows-with-sign-spec = tie.close (tie.spec Inv-loop μ-loop Inv-loop2 μ-loop2
     (λ c κs. omega arith)
     returns
     returns-2

@@ -25,11 +25,7 @@ returns : tie.Need-returns Inv-loop μ-loop
 returns c = c .before .loop .inv .3 ∙ along-done _ _ _ _ _ _ (omega arith)
 
 pub sum-spec : {M : Type 1} → statement M
-sum-spec =
-    tie.close
-    (tie.spec
-    Inv-loop
-    μ-loop
+sum-spec = tie.close (tie.spec Inv-loop μ-loop
     (λ c κs. omega arith) (λ c. omega arith) (λ c. omega arith) (λ c. omega arith)
     loop-holds
     (λ c. omega arith) (λ c κs. omega arith) (λ c. omega arith) (λ c. omega arith) (λ c. omega arith) (λ c. omega arith) (λ c. omega arith)

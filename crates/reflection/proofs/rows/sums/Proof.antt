@@ -25,11 +25,7 @@ returns : tie.Need-returns Inv-loop μ-loop
 returns c = c .before .loop .inv .3 ∙ four-done _ _ _ _ _ _ (omega arith)
 
 pub sums-spec : {M : Type 1} → statement M
-sums-spec =
-    tie.close
-    (tie.spec
-    Inv-loop
-    μ-loop
+sums-spec = tie.close (tie.spec Inv-loop μ-loop
     (λ c κs. omega arith) (λ c. omega arith) (λ c κs. omega arith)
     loop-holds
     (λ c. omega arith) (λ c κs. omega arith) (λ c. omega arith) (λ c. omega arith) (λ c κs. omega arith) (λ c. omega arith) (λ c. omega arith)

@@ -12,9 +12,7 @@ float-from-bits-k : tie.Need-float-from-bits-k
 float-from-bits-k c = no-pattern _ (omega arith)
 
 pub guess-spec : {M : Type 1} → statement M
-guess-spec =
-    tie.close
-    (tie.spec
+guess-spec = tie.close (tie.spec
     (λ c κs. search needs) (λ c. search needs) (λ c. search needs)
     float-from-bits-z
     (λ c. search needs)

@@ -10,9 +10,7 @@ returns-2 : tie.Need-returns-2
 returns-2 c = c .before .nearest2 .ensures (c .if3 .taken)
 
 pub beside-spec : {M : Type 1} → statement M
-beside-spec =
-    tie.close
-    (tie.spec
+beside-spec = tie.close (tie.spec
     (λ c. search needs) (λ c κs. search needs) (λ c. search needs)
     returns
     (λ c. search needs) (λ c κs. search needs) (λ c. search needs)

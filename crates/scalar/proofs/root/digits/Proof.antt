@@ -30,11 +30,7 @@ returns-2 c =
     rest-down _ _ _ (omega arith) (digits-all _ _ _ _ _ (c .before .before .loop .inv) (omega arith)) (omega arith)
 
 pub digits-spec : {M : Type 1} → statement M
-digits-spec =
-    tie.close
-    (tie.spec
-    Inv-loop
-    μ-loop
+digits-spec = tie.close (tie.spec Inv-loop μ-loop
     (λ c. digits-none _ (omega arith))
     (λ c. omega arith) (λ c. omega arith) (λ c. omega arith) (λ c. omega arith) (λ c. omega arith) (λ c. omega arith) (λ c. omega arith)
     (λ c. omega arith) (λ c. omega arith)

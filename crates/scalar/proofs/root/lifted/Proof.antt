@@ -27,11 +27,7 @@ returns-2 : tie.Need-returns-2 Inv-loop μ-loop
 returns-2 c = (lift-all _ _ _ (c .before .before .before .pre .1) (c .before .before .loop .inv) (omega arith), omega arith)
 
 pub lifted-spec : {M : Type 1} → statement M
-lifted-spec =
-    tie.close
-    (tie.spec
-    Inv-loop
-    μ-loop
+lifted-spec = tie.close (tie.spec Inv-loop μ-loop
     (λ c. omega arith)
     loop-holds
     (λ c. omega arith)

@@ -54,9 +54,7 @@ float-from-bits-result-3 : tie.Need-float-from-bits-result-3
 float-from-bits-result-3 c = no-pattern _ (omega (arith, made c .high, c .before .before .before .before .scaled .ensures .0 .few))
 
 pub positive-spec : {M : Type 1} → statement M
-positive-spec =
-    tie.close
-    (tie.spec
+positive-spec = tie.close (tie.spec
     (λ c. search needs) (λ c. search needs) (λ c. search needs)
     (λ c. no-pattern _ (omega arith))
     returns

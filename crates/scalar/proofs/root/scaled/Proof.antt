@@ -14,9 +14,7 @@ returns-2 : tie.Need-returns-2
 returns-2 c = (placed-both _ _ (c .before .pre .1) (omega arith) refl, c .before .pre .1)
 
 pub scaled-spec : {M : Type 1} → statement M
-scaled-spec =
-    tie.close
-    (tie.spec
+scaled-spec = tie.close (tie.spec
     (λ c κs. search needs) (λ c. search needs) (λ c. search needs) (λ c. search needs) (λ c. search needs) (λ c. search needs)
     mul-t9
     (λ c. search needs)

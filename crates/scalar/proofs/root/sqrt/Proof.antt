@@ -41,9 +41,7 @@ returns-6 c =
     c .not-a-number2 .ensures ∙ sym (root-else _ (omega arith) (c .before .if5 .left) (toBits-lt binary64 _ h)) ∙ ap rootOf (sym (back _ _ h refl))
 
 pub sqrt-spec : {M : Type 1} → statement M
-sqrt-spec =
-    tie.close
-    (tie.spec
+sqrt-spec = tie.close (tie.spec
     (λ c κs. search needs)
     returns
     float-to-bits-w

@@ -23,9 +23,7 @@ returns c =
     )
 
 pub square-spec : {M : Type 1} → statement M
-square-spec =
-    tie.close
-    (tie.spec
+square-spec = tie.close (tie.spec
     (λ c. omega (arith, parts c))
     (λ c. omega (arith, parts c))
     (λ c. omega (arith, parts c))
