@@ -12,7 +12,7 @@ use Rattle.scalar.specs.Root.{floorRoot, wholeRoot, scaleOf, unitsRoot, rootOf}
 use Rattle.scalar.specs.Root.{scaled as scaledRoot}
 use Rattle.scalar.specs.Sign.{modulusOf}
 use Rattle.matrix.specs.Sum.{bare, lane, joined, lanes}
-use Rattle.matrix.specs.Vectors.{products, dotOf, normSquared, normOf, eachTo, scaled, unscaled, normalized, largest}
+use Rattle.matrix.specs.Vectors.{products, dotOf, normSquared, normOf, eachTo, filled, scaled, unscaled, normalized, largest}
 use Rattle.matrix.specs.Fits.{blockFits}
 use Rattle.matrix.specs.Entries.{inBlock, onEntries, entryOf, putOf}
 use Rattle.matrix.specs.Product.{along, mulTo}
@@ -26,7 +26,7 @@ shown = map (toBits binary64)
 
 -- every definition that a case computes with: one name to unfold them all
 unfoldable pub opened : Unit {0}
-unfolding read shown times range bare lane joined lanes dotOf normSquared normOf eachTo scaled unscaled normalized largest blockFits inBlock onEntries entryOf putOf
+unfolding read shown times range bare lane joined lanes dotOf normSquared normOf eachTo filled scaled unscaled normalized largest blockFits inBlock onEntries entryOf putOf
     along mulTo modulusOf floorRoot wholeRoot scaleOf scaledRoot unitsRoot rootOf add mul div le ofBits toBits
 opened = tt
 
@@ -87,6 +87,13 @@ scalings : map shown (unscaled (ofBits binary64 0x4024_0000_0000_0000) (read (0x
     ∷ (0x3fe3_3333_3333_3333 ∷ 0x3fe9_9999_9999_999a ∷ 0x8000_0000_0000_0000 ∷ []) ∷ []
 unfolding opened
 scalings = refl
+
+-- 1 NaN 5 filled with -0, with NaN, and a list without a number
+fills : map shown (filled (ofBits binary64 0x8000_0000_0000_0000) (read (0x3ff0_0000_0000_0000 ∷ 0x7ff8_0000_0000_0000 ∷ 0x4014_0000_0000_0000 ∷ []))
+    ∷ filled (ofBits binary64 0x7ff8_0000_0000_0000) (read (0x3ff0_0000_0000_0000 ∷ [])) ∷ filled (ofBits binary64 0) [] ∷ [])
+    ≡ (0x8000_0000_0000_0000 ∷ 0x8000_0000_0000_0000 ∷ 0x8000_0000_0000_0000 ∷ []) ∷ (0x7ff8_0000_0000_0000 ∷ []) ∷ [] ∷ []
+unfolding opened
+fills = refl
 
 -- ---- a matrix
 
