@@ -10,6 +10,7 @@ mod leaves;
 #[allow(dead_code)]
 #[rustfmt::skip]
 mod model;
+mod numbers;
 mod random;
 mod root;
 mod scalar;
