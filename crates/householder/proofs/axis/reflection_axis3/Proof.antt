@@ -1,14 +1,13 @@
 -- `householder::axis::reflection_axis3` meets its contract. Assumes nothing.
 use mathlib.Core.Path.{sym, _∙_}
 use native.Mathlib.Omega.{arith}
-use borrow.Author.Needs.{needs}
 use Rattle.householder.proofs.Ways.{measured, axis-none, axis-made}
 use Rattle.householder.proofs.axis.reflection_axis3.Statement.{statement}
 use Rattle.householder.proofs.axis.reflection_axis3.Tie as tie
 
 pub reflection-axis3-spec : {M : Type 1} → statement M
-reflection-axis3-spec = tie.close (tie.spec (λ c κs. search needs) (λ c κs. search needs) (λ c κs. search needs)
+reflection-axis3-spec = tie.close (tie.spec (λ c κs. omega arith) (λ c κs. omega arith) (λ c κs. omega arith)
     (λ c. axis-none (measured _ _ _ _ _ (omega arith) (c .before .before .before .before .before .norm-squared .ensures) (c .before .before .before .before .measure .ensures)) (sym (c .before .is-zero .ensures) ∙ c .if1 .taken))
-    (λ c κs. search needs) (λ c κs. search needs) (λ c κs. search needs)
+    (λ c κs. omega arith) (λ c κs. omega arith) (λ c κs. omega arith)
     (λ c. rw (c .before .normalize .ensures, c .before .before .unscale .ensures, c .before .before .before .sqrt .ensures)
     (axis-made (measured _ _ _ _ _ (omega arith) (c .before .before .before .before .before .before .before .before .before .norm-squared .ensures) (c .before .before .before .before .before .before .before .before .measure .ensures)) (sym (c .before .before .before .before .before .is-zero .ensures) ∙ c .before .before .before .before .if1 .left))))

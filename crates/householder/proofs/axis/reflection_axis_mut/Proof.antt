@@ -1,7 +1,6 @@
 -- `householder::axis::reflection_axis_mut` meets its contract. Assumes nothing.
 use mathlib.Core.Path.{sym, _∙_}
 use native.Mathlib.Omega.{arith}
-use borrow.Author.Needs.{needs}
 use lib.ListN.{length-set}
 use Rattle.householder.proofs.Ways.{measured, axis-empty, axis-none, axis-made}
 use Rattle.householder.proofs.axis.reflection_axis_mut.Statement.{statement}
@@ -22,9 +21,9 @@ returns-3 c =
 pub reflection-axis-mut-spec : {M : Type 1} → statement M
 reflection-axis-mut-spec = tie.close (tie.spec
     returns
-    (λ c κs. search needs) (λ c. search needs) (λ c κs. search needs) (λ c. search needs) (λ c κs. search needs)
-    (λ c. search needs)
+    (λ c κs. omega arith) (λ c. omega arith) (λ c κs. omega arith) (λ c. omega arith) (λ c κs. omega arith)
+    (λ c. simp length-set (omega arith))
     returns-2
-    (λ c κs. search needs) (λ c κs. search needs) (λ c κs. search needs)
+    (λ c κs. omega arith) (λ c κs. omega arith) (λ c κs. omega arith)
     (λ c. omega (arith, simp length-set at (c .before .before .before .before .before .before .before .unscale-mut .kept .0)))
     returns-3)

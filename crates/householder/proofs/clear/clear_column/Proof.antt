@@ -2,7 +2,6 @@
 use mathlib.Core.Path.{_≡_, _∙_}
 use Prim.Native.Nat.{_+_}
 use native.Mathlib.Omega.{arith}
-use borrow.Author.Needs.{needs}
 use borrow.Author.Tests.{le-leb, lt-leb, not-true, not-false}
 use lib.ListN.{length}
 use Rattle.loops.specs.Place.{place, Column, column}
@@ -62,9 +61,9 @@ returns-4 c =
 
 pub clear-column-spec : {M : Type 1} → statement M
 clear-column-spec = tie.close (tie.spec
-    (λ c κs. search needs) (λ c κs. search needs)
+    (λ c κs. omega arith) (λ c κs. omega arith)
     returns
-    (λ c κs. search needs)
+    (λ c κs. omega arith)
     returns-2
     (λ c. omega (arith, bounds c, fitted (c .before)))
     (λ c. omega (arith, bounds c, fitted (c .before)))
@@ -75,9 +74,9 @@ clear-column-spec = tie.close (tie.spec
     (λ c. omega (arith, bounds c, fitted (c .before)))
     (λ c. omega (arith, bounds c, fitted (c .before)))
     (λ c. omega (arith, bounds c, fitted (c .before)))
-    (λ c κs. search needs) (λ c. search needs)
+    (λ c κs. omega arith) (λ c. omega arith)
     returns-3
-    (λ c κs. search needs)
+    (λ c κs. omega arith)
     (λ c κs. omega (arith, fitted (c .before .before .before .before .before .before .before .before .before .before)))
-    (λ c. search needs) (λ c. search needs)
+    (λ c. omega arith) (λ c. omega arith)
     returns-4)
