@@ -1,5 +1,5 @@
 -- `givens::Rotation::cancel_y` meets its contract. Assumes nothing.
-use borrow.Author.Needs.{needs}
+use native.Mathlib.Omega.{arith}
 use Rattle.givens.specs.Rotation.{lengthOf, signedLength, cancelY}
 use Rattle.givens.proofs.Rotation.cancel_y.Statement.{statement}
 use Rattle.givens.proofs.Rotation.cancel_y.Tie as tie
@@ -14,4 +14,4 @@ returns-2 c =
     rw (← c .before .before .before .before .is-zero .ensures, c .before .before .before .if1 .left, ← c .before .before .to-exp .ensures, ← c .before .sqrt .ensures)
 
 pub cancel-y-spec : {M : Type 1} → statement M
-cancel-y-spec = tie.close (tie.spec (λ c κs. search needs) returns (λ c κs. search needs) (λ c κs. search needs) returns-2)
+cancel-y-spec = tie.close (tie.spec (λ c κs. omega arith) returns (λ c κs. omega arith) (λ c κs. omega arith) returns-2)

@@ -1,5 +1,5 @@
 -- `givens::Rotation::new` meets its contract. Assumes nothing.
-use borrow.Author.Needs.{needs}
+use native.Mathlib.Omega.{arith}
 use Rattle.givens.specs.Rotation.{newOf, orIdentity}
 use Rattle.givens.proofs.Rotation.new.Statement.{statement}
 use Rattle.givens.proofs.Rotation.new.Tie as tie
@@ -13,4 +13,4 @@ unfolding newOf orIdentity
 returns-2 c = rw (← c .before .before .before .try-new .ensures, c .before .turn .given .1)
 
 pub new-spec : {M : Type 1} → statement M
-new-spec = tie.close (tie.spec (λ c κs. search needs) (λ c. search needs) (λ c. search needs) (λ c κs. search needs) returns returns-2)
+new-spec = tie.close (tie.spec (λ c κs. omega arith) (λ c. omega arith) (λ c. omega arith) (λ c κs. omega arith) returns returns-2)

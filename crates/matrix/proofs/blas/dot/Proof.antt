@@ -2,7 +2,6 @@
 use mathlib.Core.Path.{_≡_, sym, _∙_}
 use Prim.Native.Nat.{ℕ, _+_, _-_, _≤_}
 use native.Mathlib.Omega.{arith}
-use borrow.Author.Needs.{needs}
 use borrow.Author.Tests.{ne-eqb}
 use lib.ListN.{length, length-take, length-drop}
 use Rattle.loops.specs.Rounded.{_⊕_}
@@ -89,7 +88,7 @@ returns-2 c =
 
 pub dot-spec : {M : Type 1} → statement M
 dot-spec = tie.close (tie.spec Inv-loop μ-loop Inv-loop2 μ-loop2
-    (λ c κs. search needs)
+    (λ c κs. omega arith)
     returns
     loop-holds
     (λ c κs. omega arith) (λ c κs. omega arith) (λ c κs. omega arith) (λ c κs. omega arith) (λ c κs. omega arith) (λ c κs. omega arith)

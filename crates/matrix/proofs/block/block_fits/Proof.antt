@@ -4,7 +4,6 @@ use mathlib.Core.Path.{_≡_, refl}
 use mathlib.Core.Bool.{Bool, true, false, _&&_}
 use Prim.Native.Nat.{_+_, _*_}
 use native.Mathlib.Omega.{arith}
-use borrow.Author.Needs.{needs}
 use borrow.Author.Tests.{le-leb, lt-leb, eq-eqb, ne-eqb, not-true, not-false}
 use lib.Dec.{leb, eqb}
 use Rattle.loops.specs.Place.{square-64}
@@ -52,10 +51,10 @@ returns-4 c =
 
 pub block-fits-spec : {M : Type 1} → statement M
 block-fits-spec = tie.close (tie.spec
-    (λ c κs. search needs)
+    (λ c κs. omega arith)
     returns
     returns-2
     (λ c. omega (arith, square-64 (c .before .before .before .args .n) (omega arith)))
     returns-3
-    (λ c κs. search needs)
+    (λ c κs. omega arith)
     returns-4)

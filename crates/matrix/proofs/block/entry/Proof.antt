@@ -1,6 +1,5 @@
 -- `matrix::block::entry` meets its contract. Assumes nothing.
 use native.Mathlib.Omega.{arith}
-use borrow.Author.Needs.{needs}
 use Rattle.matrix.specs.Entries.{entryOf}
 use Rattle.matrix.proofs.Fitting.{spot, inside, outside}
 use Rattle.matrix.proofs.block.entry.Statement.{statement}
@@ -16,7 +15,7 @@ returns-2 c = rw (inside (c .before .before .block-fits .ensures) (c .before .if
 
 pub entry-spec : {M : Type 1} → statement M
 entry-spec = tie.close (tie.spec
-    (λ c κs. search needs) (λ c κs. search needs)
+    (λ c κs. omega arith) (λ c κs. omega arith)
     returns
     (λ c. omega (arith, spot _ _ _ _ (c .before .block-fits .ensures) (c .if1 .left)))
     (λ c. omega (arith, spot _ _ _ _ (c .before .block-fits .ensures) (c .if1 .left)))

@@ -1,6 +1,6 @@
 -- `matrix::block::put` meets its contract. Assumes nothing.
 use native.Mathlib.Omega.{arith}
-use borrow.Author.Needs.{needs}
+use lib.ListN.{length-set}
 use Rattle.matrix.specs.Entries.{onEntries, putOf}
 use Rattle.matrix.proofs.Fitting.{spot, inside, outside}
 use Rattle.matrix.proofs.Kernels.{inBlock-one}
@@ -17,11 +17,11 @@ returns-2 c = rw (inside (c .before .block-fits .ensures) (c .if1 .left), inBloc
 
 pub put-spec : {M : Type 1} → statement M
 put-spec = tie.close (tie.spec
-    (λ c κs. search needs)
+    (λ c κs. omega arith)
     returns
     (λ c. omega (arith, spot _ _ _ _ (c .before .block-fits .ensures) (c .if1 .left)))
     (λ c. omega (arith, spot _ _ _ _ (c .before .block-fits .ensures) (c .if1 .left)))
     (λ c. omega (arith, spot _ _ _ _ (c .before .block-fits .ensures) (c .if1 .left)))
     (λ c. omega (arith, spot _ _ _ _ (c .before .block-fits .ensures) (c .if1 .left)))
-    (λ c. search needs)
+    (λ c. simp length-set (omega arith))
     returns-2)

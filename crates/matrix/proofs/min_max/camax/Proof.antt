@@ -2,7 +2,6 @@
 use mathlib.Core.Path.{_≡_, _∙_}
 use Prim.Native.Nat.{_-_, _≤_}
 use native.Mathlib.Omega.{arith}
-use borrow.Author.Needs.{needs}
 use borrow.Author.Tests.{eq-eqb, ne-eqb}
 use Rattle.loops.specs.Rounded.{_!_}
 use Rattle.loops.specs.Times.{range, range-none, range-more, range-done}
@@ -42,8 +41,8 @@ returns-2 c =
 pub camax-spec : {M : Type 1} → statement M
 camax-spec = tie.close (tie.spec Inv-loop μ-loop
     returns
-    (λ c. omega arith) (λ c κs. search needs)
+    (λ c. omega arith) (λ c κs. omega arith)
     loop-holds
-    (λ c. omega arith) (λ c. omega arith) (λ c κs. search needs) (λ c κs. search needs) (λ c. omega arith) (λ c. omega arith)
+    (λ c. omega arith) (λ c. omega arith) (λ c κs. omega arith) (λ c κs. omega arith) (λ c. omega arith) (λ c. omega arith)
     loop-again
     returns-2)

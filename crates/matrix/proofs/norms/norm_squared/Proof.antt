@@ -1,5 +1,5 @@
 -- `matrix::norms::norm_squared` meets its contract. Assumes nothing.
-use borrow.Author.Needs.{needs}
+use native.Mathlib.Omega.{arith}
 use Rattle.matrix.specs.Vectors.{normSquared}
 use Rattle.matrix.proofs.Sums.{dotOf-self}
 use Rattle.matrix.proofs.norms.norm_squared.Statement.{statement}
@@ -10,4 +10,4 @@ unfolding normSquared
 returns c = rw (c .dot .ensures, dotOf-self)
 
 pub norm-squared-spec : {M : Type 1} → statement M
-norm-squared-spec = tie.close (tie.spec (λ c κs. search needs) returns)
+norm-squared-spec = tie.close (tie.spec (λ c κs. omega arith) returns)

@@ -4,7 +4,6 @@ use mathlib.Core.List.{List}
 use Prim.Native.Nat.{ℕ, _+_, _-_, _≤_}
 use native.Mathlib.Nat.{add-zero, zero-add}
 use native.Mathlib.Omega.{arith}
-use borrow.Author.Needs.{needs}
 use borrow.Author.Tests.{le-leb, lt-leb}
 use lib.ListN.{length}
 use lib.Ieee.{Float}
@@ -134,7 +133,7 @@ returns-4 c =
 
 pub mul-to-spec : {M : Type 1} → statement M
 mul-to-spec = tie.close (tie.spec Inv-loop μ-loop
-    (λ c κs. search needs)
+    (λ c κs. omega arith)
     returns
     returns-2
     (λ c κs. omega arith) (λ c. omega arith)

@@ -1,6 +1,6 @@
 -- `reflection::rows::put_four` meets its contract. Assumes nothing.
+use mathlib.Core.Path.{refl}
 use native.Mathlib.Omega.{arith}
-use borrow.Author.Needs.{needs}
 use lib.ListN.{length-set}
 use Rattle.reflection.proofs.rows.put_four.Statement.{statement}
 use Rattle.reflection.proofs.rows.put_four.Tie as tie
@@ -10,4 +10,4 @@ put-four-spec = tie.close (tie.spec
     (λ c. omega arith) (λ c. omega arith) (λ c. omega arith) (λ c. omega arith) (λ c. omega arith) (λ c. omega arith) (λ c. omega arith)
     (λ c. omega arith) (λ c. omega arith) (λ c. omega arith) (λ c. omega arith) (λ c. omega arith) (λ c. omega arith) (λ c. omega arith)
     (λ c. omega arith) (λ c. simp length-set (omega arith)) (λ c. omega arith) (λ c. omega arith) (λ c. simp length-set (omega arith))
-    (λ c. omega arith) (λ c. omega arith) (λ c. simp length-set (omega arith)) (λ c. simp length-set (omega arith)) (λ c. search needs))
+    (λ c. omega arith) (λ c. omega arith) (λ c. simp length-set (omega arith)) (λ c. simp length-set (omega arith)) (λ c. refl))

@@ -1,5 +1,5 @@
 -- `matrix::vector::Vector3::norm` meets its contract. Assumes nothing.
-use borrow.Author.Needs.{needs}
+use native.Mathlib.Omega.{arith}
 use Rattle.matrix.specs.Vectors.{normOf}
 use Rattle.matrix.proofs.vector.Vector3.norm.Statement.{statement}
 use Rattle.matrix.proofs.vector.Vector3.norm.Tie as tie
@@ -9,4 +9,4 @@ unfolding normOf
 returns c = rw (c .sqrt .ensures, c .before .norm-squared .ensures)
 
 pub norm-spec : {M : Type 1} → statement M
-norm-spec = tie.close (tie.spec (λ c κs. search needs) (λ c κs. search needs) returns)
+norm-spec = tie.close (tie.spec (λ c κs. omega arith) (λ c κs. omega arith) returns)

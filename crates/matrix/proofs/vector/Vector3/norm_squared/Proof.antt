@@ -1,5 +1,5 @@
 -- `matrix::vector::Vector3::norm_squared` meets its contract. Assumes nothing.
-use borrow.Author.Needs.{needs}
+use native.Mathlib.Omega.{arith}
 use Rattle.matrix.specs.Vectors.{normSquared}
 use Rattle.matrix.proofs.vector.Vector3.norm_squared.Statement.{statement}
 use Rattle.matrix.proofs.vector.Vector3.norm_squared.Tie as tie
@@ -9,4 +9,4 @@ unfolding normSquared
 returns c = rw (c .dot .ensures)
 
 pub norm-squared-spec : {M : Type 1} → statement M
-norm-squared-spec = tie.close (tie.spec (λ c κs. search needs) returns)
+norm-squared-spec = tie.close (tie.spec (λ c κs. omega arith) returns)
