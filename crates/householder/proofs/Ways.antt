@@ -1,5 +1,5 @@
 -- The axis by its ways, told of the numbers that a routine has in hand. Assumes nothing.
-use mathlib.Core.Path.{_≡_, refl, sym, _∙_}
+use mathlib.Core.Path.{_≡_, refl, sym, ap, _∙_}
 use mathlib.Core.Logic.{_≢_}
 use mathlib.Core.Bool.{Bool, true, false, cond}
 use mathlib.Core.List.{List}
@@ -31,7 +31,10 @@ alike sum c false = refl
 -- a column with a number, by whether its factor is zero
 axis-by : (sum : Order) (c : List Float) (b : Bool) → length c ≢ 0 → isZero (factorOf sum c) ≡ b → axisOf sum c ≡ inWay sum c (cond b (cond (allZero c) AllZero TooSmall) Reflected)
 unfolding axisOf wayOf
-axis-by sum c b h z = rw (ne-eqb _ _ h, z)
+axis-by sum c b h z =
+    let here : axisOf sum c ≡ inWay sum c (wayOf sum c) = rw (ne-eqb _ _ h) in
+    let way : wayOf sum c ≡ cond b (cond (allZero c) AllZero TooSmall) Reflected = ap (λ b. cond b (cond (allZero c) AllZero TooSmall) Reflected) z in
+    here ∙ ap (inWay sum c) way
 
 -- x is the signed norm, and f the factor, of a column with a number
 pub record Measured (sum : Order) (c : List Float) (x f : Float) : Type 0 where
