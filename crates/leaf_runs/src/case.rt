@@ -1,135 +1,150 @@
-// The blocks that rotations and reflections are run on.
-use crate::draw::room;
-use crate::say::end;
+// What a call is run on, and what it answers.
+use crate::blocks;
+use crate::draw::drawn;
+use crate::draw::numbers_of;
+use crate::reductions;
+use crate::reflections;
+use crate::rotations;
+use crate::say::flag;
+use crate::say::number;
 use crate::say::numbers;
-use crate::say::whole;
-use crate::say::word;
+use crate::slices;
+use crate::vectors;
 
+// A call has some of these numbers, and zeros for the others. In the functions below `group` is the line of the list of
+// names (`main`) that its name stands in, 0 for the first, and k its place in the line, 1 for the first.
 pub(crate) struct Case {
-    // order and number of entries of the matrix
+    // order and number of entries of the matrix, or length of the slice
     pub(crate) n: usize,
     pub(crate) len: usize,
-    // length of the axis, where it is a slice
+    // length of the other side, of the axis, of the vector, of the workspace, of Q
     pub(crate) k: usize,
-    // first row, number of rows, first column, column behind the last
+    // first row, number of rows, first column, column behind the last or number of columns
     pub(crate) row: usize,
     pub(crate) rows: usize,
     pub(crate) c0: usize,
     pub(crate) c1: usize,
-    // seed of the matrix; seed of the axis, or of the rotation
+    // seed of the matrix or slice; seed of what has the length k, or of the rotation
     pub(crate) seed: usize,
     pub(crate) other: usize,
+    // length and seed of the products, or of the signs
+    pub(crate) m: usize,
+    pub(crate) third: usize,
 }
 
-// Lines: name, the numbers of the case in this order, the matrix afterwards.
-pub(crate) fn line(name: &[u8], c: Case, t: &[f64]) {
-    word(name);
-    whole(c.n);
-    whole(c.len);
-    whole(c.k);
-    whole(c.row);
-    whole(c.rows);
-    whole(c.c0);
-    whole(c.c1);
-    whole(c.seed);
-    whole(c.other);
+// The numbers, by their places in the list of names.
+pub(crate) fn case_of(w: &[usize; 10]) -> Case {
+    Case {
+        n: w[0],
+        len: w[1],
+        k: w[2],
+        row: w[3],
+        rows: w[4],
+        c0: w[5],
+        c1: w[6],
+        seed: w[7],
+        other: w[8],
+        m: w[9],
+        third: 0,
+    }
+}
+
+// A group is a line of the list of names in `main`, counted from 0.
+//
+// The numbers that a call does not have in its line: the seeds of what is written to, of the signs, of the matrix of an
+// entry; what a reduction needs; and all those of the product with too few places.
+fn fixed(group: usize, c: Case) -> Case {
+    let mut d = c;
+    match group {
+        // put
+        1 => d.seed = 7,
+        // clear_column
+        5 => d.other = 40,
+        // assemble_q
+        6 => {
+            d.other = 48;
+            d.third = 13;
+        }
+        // mul_to
+        7 => {
+            d.m = 9;
+            d.third = 40;
+        }
+        8 => d = blocks::too_few(),
+        9 => d = reductions::sized(c, c.n),
+        10 => d = reductions::sized(c, reductions::columns(c)),
+        // entry
+        13 => d.seed = 15,
+        _ => {}
+    }
+    d
+}
+
+// What is said of these is all of t afterwards.
+fn change(group: usize, k: usize, c: Case, t: &mut [f64], a: &[f64]) {
+    match group {
+        0 => slices::change(k, t, drawn(c.seed, c.len)),
+        1 => matrix::put(t, c.n, c.row, c.c0, drawn(4, 1)),
+        2 => rotations::rotate(k, c, t),
+        3 => reflections::columns(k, c, t, a),
+        _ => reflections::rows(k, c, t, a),
+    }
+}
+
+fn changed(group: usize, k: usize, c: Case, t: &mut [f64], a: &[f64]) {
+    change(group, k, c, t, a);
     numbers(t);
-    end();
 }
 
-// Axes of a length known at run time reach to order 9, the others to order 5.
-fn on(c: Case, t: &mut [f64], a: &mut [f64]) {
-    crate::reflections::by_slice(c, t, a);
-    if c.n < 6 {
-        crate::rotations::rotate(c, t);
-        crate::reflections::by_three(c, t);
-        crate::reflections::by_two(c, t);
+// `block_fits` has its number of entries at `other`: it is given no matrix.
+fn by_reading(group: usize, k: usize, c: Case, t: &[f64], a: &[f64]) {
+    match group {
+        11 => number(matrix::dot(t, a)),
+        12 => number(slices::sum(k, t)),
+        13 => number(matrix::entry(t, c.n, c.row, c.c0)),
+        14 => flag(matrix::block_fits(c.n, c.other, c.row, c.rows, c.c0, c.c1)),
+        15 => number(vectors::sum(k, c.seed)),
+        16 => vectors::change(k, c.seed),
+        _ => rotations::of_seed(k, c.seed),
     }
 }
 
-fn cut(c: Case, t: &mut [f64], a: &mut [f64]) {
+fn tell(group: usize, k: usize, c: Case, t: &mut [f64], a: &mut [f64], w: &mut [f64]) {
+    match group {
+        0..=4 => changed(group, k, c, t, a),
+        5 => reductions::clear(k, c, t, a),
+        6 => reductions::assemble(t, c.n, w, a),
+        7..=8 => blocks::multiply(c, t, a, w),
+        9..=10 => reductions::reduce(group, k, c, t, a, w),
+        _ => by_reading(group, k, c, t, a),
+    }
+}
+
+// Says what a call answers; false where there is no room for its numbers.
+pub(crate) fn run(group: usize, k: usize, given: Case) -> bool {
+    let c = fixed(group, given);
     let len = c.len;
-    let k = c.k;
-    if len <= t.len() && k <= a.len() {
-        on(c, &mut t[0..len], &mut a[0..k]);
+    let other = c.k;
+    let third = c.m;
+    if 81 < len {
+        return false;
     }
-}
-
-fn run(
-    n: usize,
-    len: usize,
-    k: usize,
-    row: usize,
-    rows: usize,
-    c0: usize,
-    c1: usize,
-    seed: usize,
-    other: usize,
-) {
-    let c = Case {
-        n,
-        len,
+    if 81 < other {
+        return false;
+    }
+    if 81 < third {
+        return false;
+    }
+    let mut t = numbers_of(c.seed);
+    let mut a = numbers_of(c.other);
+    let mut w = numbers_of(c.third);
+    tell(
+        group,
         k,
-        row,
-        rows,
-        c0,
-        c1,
-        seed,
-        other,
-    };
-    let mut t = room();
-    let mut a = room();
-    cut(c, &mut t, &mut a);
-}
-
-pub(crate) fn cases() {
-    // whole matrices
-    run(1, 1, 1, 0, 1, 0, 1, 0, 8);
-    run(2, 4, 2, 0, 2, 0, 2, 8, 16);
-    run(3, 9, 3, 0, 3, 0, 3, 16, 24);
-    run(4, 16, 4, 0, 4, 0, 4, 24, 32);
-    run(5, 25, 5, 0, 5, 0, 5, 32, 40);
-    run(6, 36, 6, 0, 6, 0, 6, 40, 48);
-    run(9, 81, 9, 0, 9, 0, 9, 48, 56);
-    // a block in the middle; no row, no column, an axis without a number
-    run(5, 25, 3, 1, 4, 2, 4, 56, 0);
-    run(2, 4, 0, 0, 0, 1, 0, 0, 8);
-    // zeros, where sums may be -0; small ones, where products are rounded to subnormal numbers
-    run(5, 25, 3, 1, 5, 0, 5, 1, 16);
-    run(5, 25, 3, 1, 5, 0, 5, 10, 16);
-    // ordinary numbers and zeros, large ones, infinities and NaN
-    run(4, 16, 3, 1, 4, 0, 4, 5, 13);
-    run(2, 4, 2, 0, 2, 0, 2, 4, 8);
-    run(4, 16, 3, 1, 4, 0, 4, 15, 8);
-    run(2, 4, 2, 0, 2, 0, 2, 0, 31);
-    // the sign NaN
-    run(2, 4, 2, 0, 2, 0, 2, 0, 15);
-    // what does not lie in the matrix: rows, columns, ends that would wrap; another number of entries; orders 0, 65
-    run(2, 4, 2, 1, 3, 0, 2, 0, 8);
-    run(2, 4, 2, 0, 2, 1, 3, 0, 8);
-    run(
-        2,
-        4,
-        2,
-        18446744073709551615,
-        2,
-        18446744073709551615,
-        2,
-        0,
-        8,
+        c,
+        &mut t[0..len],
+        &mut a[0..other],
+        &mut w[0..third],
     );
-    run(
-        2,
-        4,
-        2,
-        0,
-        18446744073709551615,
-        0,
-        18446744073709551615,
-        0,
-        8,
-    );
-    run(2, 3, 2, 0, 2, 0, 2, 0, 8);
-    run(0, 0, 0, 0, 0, 0, 0, 0, 8);
-    run(65, 1, 1, 0, 1, 0, 1, 0, 8);
+    true
 }

@@ -62,33 +62,40 @@ const PATTERNS: [u64; 44] = [
 // first eight ordinary ones.
 pub(crate) fn drawn(seed: usize, place: usize) -> f64 {
     let k = seed % 64 * 5 + place % 128 * 9;
-    scalar::of_bits(pattern(seed % 8, k))
+    scalar::of_bits(PATTERNS[pattern(seed % 8, k) % 44])
 }
 
-fn pattern(kind: usize, k: usize) -> u64 {
+fn pattern(kind: usize, k: usize) -> usize {
     match kind {
-        0 => PATTERNS[k % 23],
-        1 => PATTERNS[23 + k % 2],
-        2 => PATTERNS[23 + k % 7],
-        3 => PATTERNS[23 + k % 11],
-        4 => PATTERNS[34 + k % 7],
-        5 => PATTERNS[k % 25],
-        6 => PATTERNS[k % 41],
-        _ => PATTERNS[(41 + k % 11) % 44],
+        0 => k % 23,
+        1 => 23 + k % 2,
+        2 => 23 + k % 7,
+        3 => 23 + k % 11,
+        4 => 34 + k % 7,
+        5 => k % 25,
+        6 => k % 41,
+        _ => 41 + k % 11,
     }
 }
 
-// Room for the numbers of one slice, order 9 at most. The `ensures` has the length and no more: so a caller's proof
-// does not carry 81 zeros along.
-pub(crate) fn room() -> [f64; 81]
+fn zeros() -> [f64; 81]
     ensures { λ r. ⌜ 81 ≡ length r ⌝ }
 {
     [0.0; 81]
 }
 
-// Draws every number of v, the first at place 0.
-pub(crate) fn fill(v: &mut [f64], seed: usize) {
+fn fill(v: &mut [f64], seed: usize) {
     for i in 0..v.len() {
         v[i] = drawn(seed, i);
     }
+}
+
+// The first 81 numbers of a seed: a call is given some of them, order 9 at most. The `ensures` has the length and no
+// more: so a caller's proof does not carry 81 numbers along.
+pub(crate) fn numbers_of(seed: usize) -> [f64; 81]
+    ensures { λ r. ⌜ 81 ≡ length r ⌝ }
+{
+    let mut v = zeros();
+    fill(&mut v, seed);
+    v
 }

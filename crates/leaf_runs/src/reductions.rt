@@ -1,232 +1,79 @@
 // A matrix reduced column by column, and Q put together from what that leaves.
-use crate::draw::fill;
-use crate::draw::room;
-use crate::say::end;
+use crate::case::Case;
+use crate::draw::numbers_of;
 use crate::say::number;
 use crate::say::numbers;
-use crate::say::whole;
-use crate::say::word;
 
-// Lines: name, order, number of entries, length of the workspace, column, seed, ..
-struct Clearing {
-    n: usize,
-    len: usize,
-    k: usize,
-    icol: usize,
-    seed: usize,
-}
+// by their roots
+const SQUARES: [usize; 10] = [0, 1, 4, 9, 16, 25, 36, 49, 64, 81];
 
-fn head(name: &[u8], c: Clearing) {
-    word(name);
-    whole(c.n);
-    whole(c.len);
-    whole(c.k);
-    whole(c.icol);
-    whole(c.seed);
-}
-
-// The norm and the workspace, then the matrix on a line of its own.
-fn clear_column(c: Clearing, t: &mut [f64], w: &mut [f64]) {
-    fill(t, c.seed);
-    fill(w, 40);
-    let norm = householder::clear_column(t, c.n, c.icol, w);
-    head(b"clear_column", c);
-    number(norm);
-    numbers(w);
-    end();
-    head(b"clear_column, matrix", c);
-    numbers(t);
-    end();
-}
-
-fn cut(c: Clearing, t: &mut [f64], w: &mut [f64]) {
-    let len = c.len;
-    let k = c.k;
-    if len <= t.len() && k <= w.len() {
-        clear_column(c, &mut t[0..len], &mut w[0..k]);
+// The norm and the workspace, or the matrix.
+pub(crate) fn clear(k: usize, c: Case, t: &mut [f64], w: &mut [f64]) {
+    let norm = householder::clear_column(t, c.n, c.c0, w);
+    if k == 1 {
+        number(norm);
+        numbers(w);
+    } else {
+        numbers(t);
     }
 }
 
-fn clear(n: usize, len: usize, k: usize, icol: usize, seed: usize) {
-    let c = Clearing {
-        n,
-        len,
-        k,
-        icol,
-        seed,
-    };
-    let mut t = room();
-    let mut w = room();
-    cut(c, &mut t, &mut w);
+pub(crate) fn assemble(t: &[f64], n: usize, signs: &[f64], q: &mut [f64]) {
+    householder::assemble_q(t, n, signs, q);
+    numbers(q);
 }
 
-fn clearings() {
-    clear(2, 4, 2, 0, 0);
-    clear(3, 9, 3, 1, 8);
-    clear(4, 16, 6, 1, 16);
-    clear(9, 81, 9, 0, 32);
-    // zeros, vanishing squares, small, large, with zeros, all finite, infinities and NaN
-    clear(3, 9, 3, 0, 0);
-    clear(3, 9, 3, 0, 1);
-    clear(3, 9, 3, 0, 9);
-    clear(3, 9, 3, 0, 2);
-    clear(3, 9, 3, 0, 10);
-    clear(3, 9, 3, 0, 18);
-    clear(3, 9, 3, 0, 3);
-    clear(3, 9, 3, 0, 11);
-    clear(3, 9, 3, 0, 4);
-    clear(3, 9, 3, 0, 5);
-    clear(4, 16, 4, 1, 14);
-    clear(4, 16, 4, 0, 7);
-    clear(4, 16, 4, 1, 15);
-    // no row below, no such column, a short workspace, another number of entries, order 0 and above 64
-    clear(1, 1, 1, 0, 0);
-    clear(2, 4, 2, 1, 0);
-    clear(2, 4, 2, 18446744073709551615, 0);
-    clear(3, 9, 2, 0, 0);
-    clear(3, 8, 3, 0, 0);
-    clear(0, 0, 0, 0, 0);
-    clear(65, 4, 2, 0, 0);
+// How many columns a reduction clears that ends with one of them: 100, and so too many, where there is no such column.
+pub(crate) fn columns(c: Case) -> usize {
+    let icol = c.c0;
+    if c.n <= icol {
+        return 100;
+    }
+    icol + 1
 }
 
-fn keep(signs: &mut [f64], icol: usize, norm: f64) {
-    if icol < signs.len() {
+// A reduction of so many columns, with Q and a sign for each: matrix and Q have 100 numbers, for which there is no room,
+// where the order or the columns are above 9.
+pub(crate) fn sized(c: Case, columns: usize) -> Case {
+    let n = c.n;
+    let mut d = c;
+    d.len = 100;
+    d.other = 48;
+    d.m = columns;
+    if n <= 9 && columns <= 9 {
+        d.len = SQUARES[n];
+    }
+    d.k = d.len;
+    d
+}
+
+// Clears a column for each sign, which it keeps as its norm, and answers the last one. The last column of a matrix has
+// no row below: that call does nothing.
+fn clear_all(t: &mut [f64], n: usize, w: &mut [f64], signs: &mut [f64]) -> f64 {
+    let mut norm = 0.0;
+    for icol in 0..signs.len() {
+        norm = householder::clear_column(t, n, icol, w);
         signs[icol] = norm;
     }
+    norm
 }
 
-// One column of a whole reduction: its norm is kept.
-fn step(t: &mut [f64], n: usize, icol: usize, seed: usize, w: &mut [f64], signs: &mut [f64]) {
-    let norm = householder::clear_column(t, n, icol, w);
-    keep(signs, icol, norm);
-    word(b"reduce, column");
-    whole(n);
-    whole(seed);
-    whole(icol);
-    number(norm);
-    end();
-}
-
-// All columns, the last one too, which has no row below: that call does nothing.
-fn steps(t: &mut [f64], n: usize, seed: usize, w: &mut [f64], signs: &mut [f64]) {
-    for icol in 0..n {
-        step(t, n, icol, seed, w, signs);
-    }
-}
-
-fn named(name: &[u8], n: usize, seed: usize, t: &[f64]) {
-    word(name);
-    whole(n);
-    whole(seed);
-    numbers(t);
-    end();
-}
-
-fn reduce(t: &mut [f64], q: &mut [f64], n: usize, seed: usize) {
-    let mut w = room();
-    let mut signs = room();
-    fill(&mut w, 40);
-    fill(t, seed);
-    steps(t, n, seed, &mut w, &mut signs);
-    named(b"reduce, matrix", n, seed, t);
-    fill(q, 48);
-    householder::assemble_q(t, n, &signs, q);
-    named(b"reduce, Q", n, seed, q);
-}
-
-fn both(t: &mut [f64], q: &mut [f64], n: usize, len: usize, seed: usize) {
-    if len <= t.len() && len <= q.len() {
-        reduce(&mut t[0..len], &mut q[0..len], n, seed);
-    }
-}
-
-// Lines: name, order, seed, ..
-fn reduction(n: usize, len: usize, seed: usize) {
-    let mut t = room();
-    let mut q = room();
-    both(&mut t, &mut q, n, len, seed);
-}
-
-fn reductions() {
-    reduction(1, 1, 0);
-    reduction(2, 4, 8);
-    reduction(3, 9, 16);
-    reduction(4, 16, 24);
-    reduction(5, 25, 32);
-    reduction(6, 36, 40);
-    reduction(9, 81, 48);
-    // with zeros; vanishing squares, where Q is turned and the matrix is not; all finite, infinities and NaN
-    reduction(4, 16, 5);
-    reduction(4, 16, 2);
-    reduction(4, 16, 14);
-    reduction(4, 16, 15);
-}
-
-// Lines: name, order, numbers of entries of the matrix and of Q, number of signs, seed, Q.
-struct Assembly {
-    n: usize,
-    len: usize,
-    qlen: usize,
+// The matrix, Q, or the last norm.
+pub(crate) fn reduce(
+    group: usize,
     k: usize,
-    seed: usize,
-}
-
-fn assemble_q(a: Assembly, t: &mut [f64], q: &mut [f64], signs: &mut [f64]) {
-    fill(t, a.seed);
-    fill(q, 48);
-    fill(signs, 13);
-    householder::assemble_q(t, a.n, signs, q);
-    word(b"assemble_q");
-    whole(a.n);
-    whole(a.len);
-    whole(a.qlen);
-    whole(a.k);
-    whole(a.seed);
-    numbers(q);
-    end();
-}
-
-fn cut_all(a: Assembly, t: &mut [f64], q: &mut [f64], signs: &mut [f64]) {
-    let len = a.len;
-    let qlen = a.qlen;
-    let k = a.k;
-    if len <= t.len() && qlen <= q.len() && k <= signs.len() {
-        assemble_q(a, &mut t[0..len], &mut q[0..qlen], &mut signs[0..k]);
+    c: Case,
+    t: &mut [f64],
+    q: &mut [f64],
+    signs: &mut [f64],
+) {
+    let mut w = numbers_of(40);
+    let norm = clear_all(t, c.n, &mut w, signs);
+    if group == 10 {
+        number(norm);
+    } else if k == 1 {
+        numbers(t);
+    } else {
+        assemble(t, c.n, signs, q);
     }
-}
-
-fn assemble(n: usize, len: usize, qlen: usize, k: usize, seed: usize) {
-    let a = Assembly {
-        n,
-        len,
-        qlen,
-        k,
-        seed,
-    };
-    let mut t = room();
-    let mut q = room();
-    let mut signs = room();
-    cut_all(a, &mut t, &mut q, &mut signs);
-}
-
-fn assemblies() {
-    assemble(1, 1, 1, 0, 0);
-    assemble(2, 4, 4, 1, 8);
-    assemble(3, 9, 9, 2, 16);
-    assemble(4, 16, 16, 5, 24);
-    assemble(5, 25, 25, 4, 3);
-    assemble(5, 25, 25, 4, 7);
-    // a sign too few, another number of entries, order 0 and above 64
-    assemble(3, 9, 9, 1, 0);
-    assemble(3, 8, 9, 2, 0);
-    assemble(3, 9, 8, 2, 0);
-    assemble(3, 9, 10, 2, 0);
-    assemble(0, 0, 0, 0, 0);
-    assemble(65, 9, 9, 9, 0);
-}
-
-pub(crate) fn cases() {
-    clearings();
-    reductions();
-    assemblies();
 }

@@ -11,11 +11,7 @@ pub(crate) fn whole(n: usize) {
 }
 
 pub(crate) fn flag(b: bool) {
-    if b {
-        word(b" 1");
-    } else {
-        word(b" 0");
-    }
+    whole(b as usize);
 }
 
 pub(crate) fn number(x: f64) {
@@ -27,17 +23,4 @@ pub(crate) fn numbers(v: &[f64]) {
     for i in 0..v.len() {
         number(v[i]);
     }
-}
-
-pub(crate) fn end() {
-    word(b"\n");
-}
-
-// A whole line: a name, a length and a seed, and numbers.
-pub(crate) fn line(name: &[u8], v: &[f64], seed: usize) {
-    word(name);
-    whole(v.len());
-    whole(seed);
-    numbers(v);
-    end();
 }

@@ -1,11 +1,9 @@
-// Vectors of two and of three. Lines: name, seed, .. The other side of a dot product is seed 16, whose
-// numbers are above, below and above 0.
+// Vectors of two and of three. The other side of a dot product is seed 16, whose numbers are above, below and above 0.
 use crate::draw::drawn;
-use crate::say::end;
 use crate::say::flag;
 use crate::say::number;
-use crate::say::whole;
-use crate::say::word;
+use householder::Axis2;
+use householder::Axis3;
 use matrix::Vector2;
 use matrix::Vector3;
 
@@ -25,77 +23,52 @@ pub(crate) fn three(seed: usize) -> Vector3 {
     }
 }
 
-fn head(name: &[u8], seed: usize) {
-    word(name);
-    whole(seed);
+pub(crate) fn sum(k: usize, seed: usize) -> f64 {
+    let u = two(seed);
+    let v = three(seed);
+    match k {
+        1 => u.dot(two(16)),
+        2 => v.dot(three(16)),
+        3 => u.norm_squared(),
+        4 => v.norm_squared(),
+        5 => u.norm(),
+        _ => v.norm(),
+    }
 }
 
-fn sum(name: &[u8], seed: usize, answer: f64) {
-    head(name, seed);
-    number(answer);
-    end();
-}
-
-fn numbers2(v: Vector2) {
+fn tell2(v: Vector2) {
     number(v.x);
     number(v.y);
-    end();
 }
 
-fn numbers3(v: Vector3) {
+fn tell3(v: Vector3) {
     number(v.x);
     number(v.y);
     number(v.z);
-    end();
 }
 
-fn of_two(seed: usize) {
-    let v = two(seed);
-    sum(b"Vector2::dot", seed, v.dot(two(16)));
-    sum(b"Vector2::norm_squared", seed, v.norm_squared());
-    sum(b"Vector2::norm", seed, v.norm());
-    head(b"Vector2::unscale", seed);
-    numbers2(v.unscale(drawn(seed, 3)));
-    head(b"Vector2::normalize", seed);
-    numbers2(v.normalize());
-    let a = householder::reflection_axis2(v);
-    head(b"reflection_axis2", seed);
+fn axis2(a: Axis2) {
     number(a.norm);
     flag(a.reflected);
-    numbers2(a.axis);
+    tell2(a.axis);
 }
 
-fn of_three(seed: usize) {
+fn axis3(a: Axis3) {
+    number(a.norm);
+    flag(a.reflected);
+    tell3(a.axis);
+}
+
+pub(crate) fn change(k: usize, seed: usize) {
+    let u = two(seed);
     let v = three(seed);
-    sum(b"Vector3::dot", seed, v.dot(three(16)));
-    sum(b"Vector3::norm_squared", seed, v.norm_squared());
-    sum(b"Vector3::norm", seed, v.norm());
-    head(b"Vector3::unscale", seed);
-    numbers3(v.unscale(drawn(seed, 3)));
-    head(b"Vector3::normalize", seed);
-    numbers3(v.normalize());
-    let a = householder::reflection_axis3(v);
-    head(b"reflection_axis3", seed);
-    number(a.norm);
-    flag(a.reflected);
-    numbers3(a.axis);
-}
-
-fn of_seed(seed: usize) {
-    of_two(seed);
-    of_three(seed);
-}
-
-pub(crate) fn seeds() {
-    for seed in 0..16 {
-        of_seed(seed);
+    let divisor = drawn(seed, 3);
+    match k {
+        1 => tell2(u.unscale(divisor)),
+        2 => tell3(v.unscale(divisor)),
+        3 => tell2(u.normalize()),
+        4 => tell3(v.normalize()),
+        5 => axis2(householder::reflection_axis2(u)),
+        _ => axis3(householder::reflection_axis3(v)),
     }
-    // more ordinary numbers, then more with an infinity or a NaN
-    of_seed(16);
-    of_seed(24);
-    of_seed(32);
-    of_seed(40);
-    of_seed(31);
-    of_seed(47);
-    of_seed(55);
 }

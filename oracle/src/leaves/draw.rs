@@ -40,7 +40,7 @@ pub fn drawn(seed: usize, place: usize) -> f64 {
     f64::from_bits(PATTERNS[index])
 }
 
-/// The first `len` numbers of a seed.
-pub fn many(len: usize, seed: usize) -> Vec<f64> {
-    (0..len).map(|place| drawn(seed, place)).collect()
+/// The first `len` numbers of a seed, where the program has room for so many.
+pub fn many(len: usize, seed: usize) -> Option<Vec<f64>> {
+    (len <= 81).then(|| (0..len).map(|place| drawn(seed, place)).collect())
 }

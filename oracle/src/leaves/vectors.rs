@@ -2,40 +2,38 @@
 
 use super::draw::{drawn, many};
 use super::plain;
-use super::say::Page;
+use super::say::{numbers, told};
 use crate::model;
 
-fn of_size(page: &mut Page, size: usize, seed: usize) {
-    let v = many(size, seed);
-    let name = |method: &str| format!("Vector{size}::{method}");
-    let dot = model::dot_small(&v, &many(size, 16));
-    page.line(&name("dot"), &[seed], &[dot]);
-    page.line(
-        &name("norm_squared"),
-        &[seed],
-        &[plain::norm_squared(&v, true)],
-    );
-    page.line(&name("norm"), &[seed], &[plain::norm(&v, true)]);
-    let mut u = v.clone();
-    plain::unscale(&mut u, drawn(seed, 3));
-    page.line(&name("unscale"), &[seed], &u);
-    let mut u = v.clone();
-    plain::normalize(&mut u, true);
-    page.line(&name("normalize"), &[seed], &u);
-    let mut u = v;
-    let (norm, reflected) = model::axis(&mut u, true);
-    page.told(
-        &format!("reflection_axis{size}"),
-        &[seed],
-        norm,
-        reflected,
-        &u,
-    );
+pub fn answer(name: &str, wholes: &[usize]) -> Option<String> {
+    let &[seed] = wholes else {
+        return None;
+    };
+    if let Some(size) = name.strip_prefix("reflection_axis") {
+        let mut v = many(length(size)?, seed)?;
+        let (norm, reflected) = model::axis(&mut v, true);
+        return Some(told(norm, reflected, &v));
+    }
+    let (size, method) = name.strip_prefix("Vector")?.split_once("::")?;
+    of_vector(method, many(length(size)?, seed)?, seed)
 }
 
-pub fn seeds(page: &mut Page) {
-    for seed in (0..16).chain([16, 24, 32, 40, 31, 47, 55]) {
-        of_size(page, 2, seed);
-        of_size(page, 3, seed);
+fn length(size: &str) -> Option<usize> {
+    match size {
+        "2" => Some(2),
+        "3" => Some(3),
+        _ => None,
     }
+}
+
+fn of_vector(method: &str, mut v: Vec<f64>, seed: usize) -> Option<String> {
+    match method {
+        "dot" => return Some(numbers(&[model::dot_small(&v, &many(v.len(), 16)?)])),
+        "norm_squared" => return Some(numbers(&[plain::norm_squared(&v, true)])),
+        "norm" => return Some(numbers(&[plain::norm(&v, true)])),
+        "unscale" => plain::unscale(&mut v, drawn(seed, 3)),
+        "normalize" => plain::normalize(&mut v, true),
+        _ => return None,
+    }
+    Some(numbers(&v))
 }
