@@ -1,7 +1,7 @@
 -- Laws that other crates may cite. `Fitting` turns the guard into the facts that index proofs need; `Blocks` and `Kernels` say what is
--- done to the entries of a block and what is left alone, once for every kernel; `Walks` has a kernel's loop from its guard to its end, `Turns`
--- one turn of it; `Each` is
--- about the numbers of a list rewritten one by one, `Sums` about the two orders of a sum, `Moving` about one whose lists move on by eight.
+-- done to the entries of a block and what is left alone, once for every kernel; `Walks` has a kernel's loop from its guard to its end, and
+-- `Turns` one turn of it; `Each` is about the numbers of a list rewritten one by one, `Sums` about the two orders of a sum, `Moving` about
+-- one whose lists move on by eight.
 pub mod Fitting
 pub mod Blocks
 pub mod Kernels

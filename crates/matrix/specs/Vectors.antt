@@ -1,4 +1,4 @@
--- Dot product, norm, scaling and largest magnitude of a list of numbers: a column, a part of one, or a whole matrix column by column
+-- Dot product, norm, scaling, filling and largest magnitude of a list of numbers: a column, a part of one, or a whole matrix column by column
 -- (docs/SUMS.md, 2.1 to 2.7).
 use Prim.Native.Nat.{ℕ}
 use mathlib.Core.Bool.{cond}
