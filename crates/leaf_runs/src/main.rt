@@ -2,8 +2,9 @@
 // that its input lists, the file stdin beside src/, which says what their numbers mean. It prints each call again with
 // the numbers that it answers or leaves, by their bits, every NaN as 7ff8000000000000. A line that it does not
 // understand it prints with these words and the line's number.
-// The file stdout is made by plain Rust after docs/SUMS.md from the same calls, never by this program:
-// `oracle/run leaves` makes it again and compares, `oracle/run leaves --write` stores it.
+// The file stdout is made from the same calls by the functions of oracle/src/model.rs, and by plain Rust after
+// docs/SUMS.md where that has none, never by this program: `oracle/run leaves` makes it again and compares,
+// `oracle/run leaves --write` stores it.
 mod blocks;
 mod case;
 mod draw;

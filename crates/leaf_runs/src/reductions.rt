@@ -58,7 +58,7 @@ fn clear_all(t: &mut [f64], n: usize, w: &mut [f64], signs: &mut [f64]) -> f64 {
     norm
 }
 
-// The matrix, Q, or the last norm.
+// The last norm for `reduce, column`, which is group 10; else the matrix or Q.
 pub(crate) fn reduce(
     group: usize,
     k: usize,
