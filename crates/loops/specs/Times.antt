@@ -59,6 +59,12 @@ unfolding times
 times-same f g zero a same = refl
 times-same f g (suc n) a same = ap (f n) (times-same f g n a (λ i x l. same i x (omega arith))) ∙ same n (times g n a) (omega arith)
 
+-- two loops side by side: what each pair of turns keeps between their states, the whole keeps
+pub times-both : {A B : Type 0} (R : A → B → Type 0) (f : ℕ → A → A) (g : ℕ → B → B) (n : ℕ) (a : A) (b : B) → ((i : ℕ) (x : A) (y : B) → R x y → R (f i x) (g i y)) → R a b → R (times f n a) (times g n b)
+unfolding times
+times-both R f g zero a b keep h = h
+times-both R f g (suc n) a b keep h = keep n (times f n a) (times g n b) (times-both R f g n a b keep h)
+
 -- ---- `for i in a..b`
 
 unfoldable pub range : {A : Type 0} → (ℕ → A → A) → ℕ → ℕ → A → A
@@ -100,6 +106,10 @@ range-at f a b t j p d h k keep =
 pub range-same : {A : Type 0} (f g : ℕ → A → A) (a b : ℕ) (s : A) → ((i : ℕ) (x : A) → a ≤ i → i < b → f i x ≡ g i x) → range f a b s ≡ range g a b s
 unfolding range
 range-same f g a b s same = times-same (λ k. f (a + k)) (λ k. g (a + k)) (b - a) s (λ k x l. same (a + k) x (omega arith) (omega arith))
+
+pub range-both : {A B : Type 0} (R : A → B → Type 0) (f : ℕ → A → A) (g : ℕ → B → B) (a b : ℕ) (s : A) (u : B) → ((i : ℕ) (x : A) (y : B) → R x y → R (f i x) (g i y)) → R s u → R (range f a b s) (range g a b u)
+unfolding range
+range-both R f g a b s u keep h = times-both R (λ k. f (a + k)) (λ k. g (a + k)) (b - a) s u (λ k. keep (a + k)) h
 
 -- ---- a few turns
 

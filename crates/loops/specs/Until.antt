@@ -1,7 +1,7 @@
 -- A loop with fuel that may stop early: `until done f n a` applies f to a until `done` says so, and n times at most.
 -- A loop's invariant says that what is left to do, `until done f left` of the state as it is, equals the whole.
 use mathlib.Core.Path.{_≡_, refl, sym, ap, _∙_}
-use mathlib.Core.Bool.{Bool, true, false}
+use mathlib.Core.Bool.{Bool, true, false, false≢true}
 use Prim.Native.Nat.{ℕ, zero, suc, _+_, _-_, _<_}
 use native.Mathlib.Nat.{zero-add, suc-add}
 use native.Mathlib.Omega.{arith}
@@ -41,6 +41,20 @@ until-hold P done f (suc n) a keep h = go (done a) (until-hold P done f n (f a) 
     go : (b : Bool) → P (until done f n (f a)) → P (elim b [ true ↦ a | false ↦ until done f n (f a) ])
     go true k = h
     go false k = k
+
+-- two loops side by side that stop together: what each pair of turns keeps between their states, the whole keeps
+pub until-both : {A B : Type 0} (R : A → B → Type 0) (done : A → Bool) (f : A → A) (over : B → Bool) (g : B → B) (n : ℕ) (a : A) (b : B)
+    → ((x : A) (y : B) → R x y → done x ≡ over y) → ((x : A) (y : B) → R x y → R (f x) (g y)) → R a b → R (until done f n a) (until over g n b)
+unfolding until
+until-both R done f over g zero a b same keep h = h
+until-both R done f over g (suc n) a b same keep h = go (done a) (over b) (same a b h) (until-both R done f over g n (f a) (g b) same keep (keep a b h))
+  where
+    go : (x y : Bool) → x ≡ y → R (until done f n (f a)) (until over g n (g b))
+        → R (elim x [ true ↦ a | false ↦ until done f n (f a) ]) (elim y [ true ↦ b | false ↦ until over g n (g b) ])
+    go true true e k = h
+    go true false e k = absurd (false≢true (sym e))
+    go false true e k = absurd (false≢true e)
+    go false false e k = k
 
 -- fuel used in two portions: what the first leaves, the second takes up
 pub until-portions : {A : Type 0} (done : A → Bool) (f : A → A) (m n : ℕ) (a : A) → until done f (m + n) a ≡ until done f n (until done f m a)
