@@ -8,7 +8,7 @@ use std::process::exit;
 const FOLDER: &str = "../target/staticlib";
 
 /// The Rattle crates of these names.
-const LIBRARIES: [&str; 2] = ["door", "leaf_door"];
+const LIBRARIES: [&str; 3] = ["door", "leaf_door", "run_door"];
 
 fn main() {
     println!("cargo:rustc-link-search=native={FOLDER}");

@@ -4,8 +4,10 @@
 //! status is 0 if the two agree, 1 if a difference was found, 2 if the command could not be run.
 
 mod bench;
+mod compare;
 mod crate_side;
 mod door;
+mod jobs;
 mod leaves;
 #[allow(dead_code)]
 #[rustfmt::skip]
@@ -14,6 +16,7 @@ mod numbers;
 mod random;
 mod root;
 mod scalar;
+mod speed;
 mod sums;
 mod versions;
 
@@ -29,9 +32,15 @@ const COMMANDS: &[(&str, &str, Run)] = &[
         "[--count THOUSANDS] [--seed HEX] [--repeat TIMES]",
         bench::run,
     ),
+    (
+        "compare",
+        "[--count THOUSANDS] [--large COUNT] [--seed HEX] [--file FILE]",
+        compare::run,
+    ),
     ("leaves", "[--write]", leaves::run),
     ("root", "[--count MILLIONS] [--seed HEX]", root::run),
     ("scalar", "[--write]", scalar::run),
+    ("speed", "[--repeat TIMES] [--seed HEX]", speed::run),
     ("sums", "", sums::run),
     ("versions", "", versions::run),
 ];

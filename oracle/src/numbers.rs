@@ -74,6 +74,12 @@ pub fn ordinary(random: &mut Random) -> f64 {
     (random.word() >> 11) as f64 / (1u64 << 52) as f64 - 1.0
 }
 
+/// Nearly normal with mean 0 and deviation 1, by a sum. A logarithm would have other bits on another
+/// machine.
+pub fn normal(random: &mut Random) -> f64 {
+    (0..12).map(|_| ordinary(random)).sum::<f64>() / 2.0
+}
+
 fn pick<const N: usize>(random: &mut Random, list: [f64; N]) -> f64 {
     list[random.below(N as u64) as usize]
 }
@@ -81,4 +87,29 @@ fn pick<const N: usize>(random: &mut Random, list: [f64; N]) -> f64 {
 /// A number from `first` to `last`.
 pub fn between(random: &mut Random, first: usize, last: usize) -> usize {
     first + random.below((last - first) as u64 + 1) as usize
+}
+
+/// 2 to an exponent from -1074 to 1023. `powi` takes the reciprocal of the power, which is infinite
+/// from 2^1024 on, and so may answer 0 for a subnormal.
+pub fn power(exponent: i32) -> f64 {
+    match exponent + 1022 {
+        normal @ 0.. => f64::from_bits((normal as u64 + 1) << 52),
+        below => f64::from_bits(1 << (below + 52)),
+    }
+}
+
+#[cfg(test)]
+mod tests {
+    use super::power;
+
+    #[test]
+    fn powers_are_halves_and_doubles() {
+        assert_eq!(power(0), 1.0);
+        assert_eq!(power(1023) * 2.0, f64::INFINITY);
+        assert_eq!(power(-1022), f64::MIN_POSITIVE);
+        assert_eq!(power(-1074), f64::from_bits(1));
+        for exponent in -1073..1024 {
+            assert_eq!(power(exponent) / 2.0, power(exponent - 1));
+        }
+    }
 }

@@ -4,11 +4,10 @@
 mod groups;
 mod timing;
 
-use crate::door;
 use crate::random::Random;
+use crate::{door, jobs};
 use groups::GROUPS;
 use std::ops::Range;
-use std::sync::atomic::{AtomicUsize, Ordering};
 use std::time::Instant;
 
 /// The number 1.0.
@@ -152,33 +151,11 @@ fn hardware(input: u64) -> u64 {
     door::one_nan(f64::from_bits(input).sqrt())
 }
 
-/// Tries every group, on as many threads as there are cores; a tally for each.
+/// Tries every group, on all cores; a tally for each.
 fn compare(options: &Options) -> Vec<Tally> {
-    let jobs = GROUPS.len() * PARTS as usize;
-    let threads = std::thread::available_parallelism().map_or(1, usize::from);
-    let next = AtomicUsize::new(0);
-    let work = || {
-        let mut done = Vec::new();
-        loop {
-            let job = next.fetch_add(1, Ordering::Relaxed);
-            if job >= jobs {
-                return done;
-            }
-            done.push((job, run_part(options, job)));
-        }
-    };
-    let mut done: Vec<(usize, Tally)> = std::thread::scope(|scope| {
-        let workers: Vec<_> = (0..threads).map(|_| scope.spawn(work)).collect();
-        workers
-            .into_iter()
-            .flat_map(|worker| worker.join().expect("no panic"))
-            .collect()
-    });
-
-    // In order again, so that the differences shown do not depend on the threads.
-    done.sort_by_key(|(job, _)| *job);
+    let parts = jobs::on_all_cores(GROUPS.len() * PARTS as usize, |job| run_part(options, job));
     let mut tallies: Vec<Tally> = GROUPS.iter().map(|_| Tally::default()).collect();
-    for (job, tally) in done {
+    for (job, tally) in parts.into_iter().enumerate() {
         tallies[job / PARTS as usize].add(tally);
     }
     tallies

@@ -1,0 +1,2 @@
+-- `Number`: the run's answer as a number.
+pub mod Number

@@ -1,0 +1,73 @@
+-- What a run answers, told of the state at which it stopped, and what its test of the arguments tells. Assumes nothing.
+use Prim.Native.Nat.{ℕ, _*_, _≤_, _<_}
+use mathlib.Core.Bool.{Bool, true, false, cond, not, _&&_, _||_, false≢true}
+use mathlib.Core.Logic.{_≢_}
+use mathlib.Core.Path.{_≡_, refl, sym, ap, _∙_}
+use mathlib.Core.List.{List}
+use native.Mathlib.Omega.{arith}
+use borrow.Author.Tests.{eq-eqb, ne-eqb, leb-true, eqb-true}
+use lib.Dec.{eqb}
+use lib.ListN.{length}
+use lib.Seq.{ext-getD}
+use lib.Ieee.{Float, nan}
+use Rattle.matrix.specs.Vectors.{scaled, filled}
+use Rattle.matrix.proofs.Each.{filled-length, filled-at}
+use Rattle.matrix.proofs.Fitting.{Fits, fits}
+use Rattle.schur.specs.declared.run.State.{State}
+use Rattle.schur.specs.declared.run.Ran.the-variants.{Ended, BudgetReached}
+use Rattle.schur.specs.Pair.{Pair, pair}
+use Rattle.schur.specs.Run.{Running, running, left, answered, runFits}
+
+-- ---- by the count
+
+-- the test at the state in hand
+tested : (budget : ℕ) (amax : Float) (s : State) (p : Pair) (r : Running) (b : Bool) → running s p ≡ r → eqb (s .passes) budget ≡ b
+    → cond b (left (BudgetReached (s .window)) p) (left (Ended (s .passes)) (pair (scaled amax (p .t)) (p .q))) ≡ answered budget amax r
+unfolding answered
+tested budget amax s p r b e h =
+    sym (ap (λ d. cond d (left (BudgetReached (s .window)) p) (left (Ended (s .passes)) (pair (scaled amax (p .t)) (p .q)))) h)
+    ∙ ap (answered budget amax) e
+
+pub answered-reached : (budget : ℕ) (amax : Float) (s : State) (p : Pair) (r : Running) → running s p ≡ r → s .passes ≡ budget
+    → left (BudgetReached (s .window)) p ≡ answered budget amax r
+answered-reached budget amax s p r e h = tested budget amax s p r true e (eq-eqb _ _ h)
+
+pub answered-ended : (budget : ℕ) (amax : Float) (s : State) (p : Pair) (r : Running) → running s p ≡ r → s .passes ≢ budget
+    → left (Ended (s .passes)) (pair (scaled amax (p .t)) (p .q)) ≡ answered budget amax r
+answered-ended budget amax s p r e h = tested budget amax s p r false e (ne-eqb _ _ h)
+
+-- ---- the test of the arguments
+
+pub record RunFits (wanted : Bool) (n tn qn wn : ℕ) : Type 0 where
+  pub some : 1 ≤ n
+  pub order : n ≤ 64
+  pub size : tn ≡ n * n
+  pub sizeQ : wanted ≡ true → qn ≡ n * n
+  pub room : wn ≡ 2 * n
+
+both : (a b : Bool) → a && b ≡ true → (a ≡ true) × (b ≡ true)
+both true b h = (refl, h)
+both false b h = absurd (false≢true h)
+
+pub run-fitting : (wanted : Bool) (n tn qn wn : ℕ) → runFits wanted n tn qn wn ≡ true → RunFits wanted n tn qn wn
+unfolding runFits
+run-fitting wanted n tn qn wn h =
+    let a = both _ _ h in
+    let b = both _ _ (a .1) in
+    let d = both _ _ (b .1) in
+    let f = fits n tn n n (b .0) in
+    record {
+      some = leb-true _ _ (a .0);
+      order = f .order;
+      size = f .size;
+      sizeQ = λ w. eqb-true _ _ (sym (ap (λ x. not x || eqb qn (n * n)) w) ∙ d .0);
+      room = eqb-true _ _ (d .1);
+    }
+
+-- ---- the workspace
+
+-- it does not matter what is filled over
+pub filled-same : (x : Float) (s t : List Float) → length s ≡ length t → filled x s ≡ filled x t
+filled-same x s t e =
+    ext-getD nan (filled x s) (filled x t) (filled-length x s ∙ e ∙ sym (filled-length x t))
+    (λ i l. let h : i < length s = omega (arith, filled-length x s) in filled-at x s i h ∙ sym (filled-at x t i (omega arith)))
