@@ -87,7 +87,15 @@ fn sweep2(t: &mut [f64], n: usize, start: usize, k: usize, norm: f64)
 }
 
 // Both sides of T by the axis a from row and column k on, its columns in the first `rows` rows; and Q.
-fn reflect_at3(a: Vector3, t: &mut [f64], q: &mut [f64], n: usize, wanted: bool, k: usize, rows: usize)
+fn reflect_at3(
+    a: Vector3,
+    t: &mut [f64],
+    q: &mut [f64],
+    n: usize,
+    wanted: bool,
+    k: usize,
+    rows: usize,
+)
     ensures { λ _. ⌜ pair (now (t .exit)) (now (q .exit)) ≡ reflectedAt wanted n (three a) k rows (pair (now (t .entry)) (now (q .entry))) ⌝ }
 {
     reflection::reflect3(a, t, n, k, k, n);
@@ -97,7 +105,15 @@ fn reflect_at3(a: Vector3, t: &mut [f64], q: &mut [f64], n: usize, wanted: bool,
     }
 }
 
-fn reflect_at2(a: Vector2, t: &mut [f64], q: &mut [f64], n: usize, wanted: bool, k: usize, rows: usize)
+fn reflect_at2(
+    a: Vector2,
+    t: &mut [f64],
+    q: &mut [f64],
+    n: usize,
+    wanted: bool,
+    k: usize,
+    rows: usize,
+)
     ensures { λ _. ⌜ pair (now (t .exit)) (now (q .exit)) ≡ reflectedAt wanted n (two a) k rows (pair (now (t .entry)) (now (q .entry))) ⌝ }
 {
     reflection::reflect2(a, t, n, k, k, n);
@@ -108,7 +124,16 @@ fn reflect_at2(a: Vector2, t: &mut [f64], q: &mut [f64], n: usize, wanted: bool,
 }
 
 // The step at k by the column, in a pass that began at `start`.
-fn step3(column: Vector3, t: &mut [f64], q: &mut [f64], n: usize, wanted: bool, start: usize, k: usize, rows: usize)
+fn step3(
+    column: Vector3,
+    t: &mut [f64],
+    q: &mut [f64],
+    n: usize,
+    wanted: bool,
+    start: usize,
+    k: usize,
+    rows: usize,
+)
     requires { ⌜ (n ≤ 64) × (length (now t) ≡ n * n) × (k + 2 < n) ⌝ }
     ensures { λ _. ⌜ pair (now (t .exit)) (now (q .exit)) ≡ stepAt wanted n start k rows (three column) (pair (now (t .entry)) (now (q .entry))) ⌝ }
 {
@@ -120,7 +145,16 @@ fn step3(column: Vector3, t: &mut [f64], q: &mut [f64], n: usize, wanted: bool, 
     reflect_at3(r.axis, t, q, n, wanted, k, rows);
 }
 
-fn step2(column: Vector2, t: &mut [f64], q: &mut [f64], n: usize, wanted: bool, start: usize, k: usize, rows: usize)
+fn step2(
+    column: Vector2,
+    t: &mut [f64],
+    q: &mut [f64],
+    n: usize,
+    wanted: bool,
+    start: usize,
+    k: usize,
+    rows: usize,
+)
     requires { ⌜ (n ≤ 64) × (length (now t) ≡ n * n) × (k + 1 < n) ⌝ }
     ensures { λ _. ⌜ pair (now (t .exit)) (now (q .exit)) ≡ stepAt wanted n start k rows (two column) (pair (now (t .entry)) (now (q .entry))) ⌝ }
 {
@@ -155,7 +189,16 @@ fn rows_at(k: usize, end: usize) -> usize
 }
 
 // The step at k by three numbers.
-fn chase(first: Vector3, t: &mut [f64], q: &mut [f64], n: usize, wanted: bool, start: usize, end: usize, k: usize)
+fn chase(
+    first: Vector3,
+    t: &mut [f64],
+    q: &mut [f64],
+    n: usize,
+    wanted: bool,
+    start: usize,
+    end: usize,
+    k: usize,
+)
     requires { ⌜ (n ≤ 64) × (length (now t) ≡ n * n) × (k + 1 < end) × (end < n) ⌝ }
     ensures { λ _. ⌜ pair (now (t .exit)) (now (q .exit)) ≡ chased wanted n first start end k (pair (now (t .entry)) (now (q .entry))) ⌝ }
 {

@@ -136,7 +136,14 @@ struct Opening {
     amax: f64,
 }
 
-fn begin(t: &mut [f64], q: &mut [f64], n: usize, wanted: bool, eps: f64, work: &mut [f64]) -> Opening
+fn begin(
+    t: &mut [f64],
+    q: &mut [f64],
+    n: usize,
+    wanted: bool,
+    eps: f64,
+    work: &mut [f64],
+) -> Opening
     requires { ⌜ (n ≤ 64) × (3 ≤ n) × (length (now t) ≡ n * n) ⌝ }
     ensures { λ r. ⌜ (running (r .state) (pair (now (t .exit)) (now (q .exit))) ≡ opened wanted n eps (now (work .entry)) (pair (now (t .entry)) (now (q .entry)))) × (r .amax ≡ largest (now (t .entry))) ⌝ }
     ensures { λ r. ⌜ (r .state .window .end < n) × (r .state .window .start ≤ r .state .window .end) × (r .state .passes ≡ 0) ⌝ }

@@ -21,9 +21,10 @@ run-fitting-requires c κs = let f = fitted (c .before .before .before) in (f .o
 
 returns-2 : tie.Need-returns-2
 unfolding runOf workAfter
-returns-2 c =
-    (rw (inside (c .before .before .before .before .before .before .before .before .before .before .before .before .before .before .before .run-fits .ensures) (c .before .before .before .before .before .before .before .before .before .before .before .before .before .before .if1 .left)) (c .before .before .before .before .before .before .before .before .before .before .run-fitting .ensures),
-    rw (inside (c .before .before .before .before .before .before .before .before .before .before .before .before .before .before .before .run-fits .ensures) (c .before .before .before .before .before .before .before .before .before .before .before .before .before .before .if1 .left)) (c .before .before .fill .ensures ∙ filled-same zero _ _ (omega arith)))
+returns-2 c = (
+  rw (inside (c .before .before .before .before .before .before .before .before .before .before .before .before .before .before .before .run-fits .ensures) (c .before .before .before .before .before .before .before .before .before .before .before .before .before .before .if1 .left)) (c .before .before .before .before .before .before .before .before .before .before .run-fitting .ensures),
+  rw (inside (c .before .before .before .before .before .before .before .before .before .before .before .before .before .before .before .run-fits .ensures) (c .before .before .before .before .before .before .before .before .before .before .before .before .before .before .if1 .left)) (c .before .before .fill .ensures ∙ filled-same zero _ _ (omega arith)),
+)
 
 pub do-decompose-spec : {M : Type 1} → statement M
 do-decompose-spec = tie.close (tie.spec (λ c κs. omega arith) returns run-fitting-requires (λ c κs. omega arith)
