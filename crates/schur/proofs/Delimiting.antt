@@ -1,14 +1,33 @@
--- Delimiting by what its two searches have found. Assumes nothing.
+-- Delimiting by what its tests and its two searches have found. Assumes nothing.
 use Prim.Native.Nat.{ℕ, _-_, _<_}
-use mathlib.Core.Bool.{cond}
+use mathlib.Core.Bool.{true, false, cond, _||_}
 use mathlib.Core.Path.{_≡_, sym, ap, _∙_}
 use mathlib.Core.List.{List}
 use native.Mathlib.Omega.{arith}
 use borrow.Author.Tests.{eq-eqb, ne-eqb}
 use lib.Dec.{eqb}
-use lib.Ieee.{Float}
+use lib.Ieee.{Float, le}
+use Rattle.loops.specs.Place.{place}
+use Rattle.loops.specs.Rounded.{_⊕_, _⊗_, _!_}
 use Rattle.loops.specs.Until.{until, until-out}
-use Rattle.schur.specs.Window.{window, decoupled, falling, endFrom, cut, startFrom, delimited, delimitOf}
+use Rattle.scalar.specs.Sign.{modulusOf}
+use Rattle.schur.specs.Window.{window, below, small, decoupled, falling, endFrom, cut, startFrom, delimited, delimitOf}
+
+-- ---- whether an entry passes for zero, told of its magnitude and of those beside it on the diagonal
+
+pub small-absolute : (n : ℕ) (eps : Float) (t : List Float) (i : ℕ) (off : Float) → off ≡ modulusOf (below n i t) → le off (eps ⊗ eps) ≡ true → true ≡ small n eps t i
+unfolding small
+small-absolute n eps t i off e h =
+    let beside = eps ⊗ (modulusOf (t ! place n i i) ⊕ modulusOf (t ! place n (i - 1) (i - 1))) in
+    ap (λ d. d || le off beside) (sym h) ∙ ap (λ x. le x (eps ⊗ eps) || le x beside) e
+
+pub small-relative : (n : ℕ) (eps : Float) (t : List Float) (i : ℕ) (off a b : Float) → off ≡ modulusOf (below n i t) → le off (eps ⊗ eps) ≡ false
+    → a ≡ modulusOf (t ! place n i i) → b ≡ modulusOf (t ! place n (i - 1) (i - 1)) → le off (eps ⊗ (a ⊕ b)) ≡ small n eps t i
+unfolding small
+small-relative n eps t i off a b e h u v =
+    ap (λ d. d || le off (eps ⊗ (a ⊕ b))) (sym h) ∙ ap (λ x. le x (eps ⊗ eps) || le x (eps ⊗ (a ⊕ b))) e ∙ rw (u, v)
+
+-- ---- the window
 
 -- the end fell to e and left t; the start is s
 found : (n : ℕ) (eps : Float) (end : ℕ) (t₀ : List Float) (e : ℕ) (t : List Float) (s : ℕ) → falling e t ≡ endFrom n eps end t₀ → s ≡ startFrom n eps e t

@@ -5,3 +5,4 @@ mod Answering
 mod BlockWays
 mod Delimiting
 mod Swept
+mod Turning
