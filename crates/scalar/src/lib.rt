@@ -5,6 +5,7 @@ mod class;
 mod guess;
 mod root;
 mod sign;
+mod table;
 mod words;
 
 pub use bits::bits_of;

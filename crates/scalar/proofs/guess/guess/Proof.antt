@@ -1,20 +1,25 @@
--- `scalar::guess::guess` is safe: the two patterns that it makes are no NaN's. Nothing is said of what it answers. Assumes nothing.
+-- `scalar::guess::guess` is safe: the three patterns that it makes are no NaN's. Nothing is said of what it answers. Assumes nothing.
 use native.Mathlib.Omega.{arith}
 use borrow.Author.Needs.{needs}
 use Rattle.scalar.proofs.Patterns.{no-pattern}
 use Rattle.scalar.proofs.guess.guess.Statement.{statement}
 use Rattle.scalar.proofs.guess.guess.Tie as tie
 
-float-from-bits-z : tie.Need-float-from-bits-z
-float-from-bits-z c = no-pattern _ (omega arith)
+float-from-bits-u : tie.Need-float-from-bits-u
+float-from-bits-u c = no-pattern _ (omega arith)
 
 float-from-bits-k : tie.Need-float-from-bits-k
 float-from-bits-k c = no-pattern _ (omega arith)
 
+float-from-bits-m : tie.Need-float-from-bits-m
+float-from-bits-m c = no-pattern _ (omega arith)
+
 pub guess-spec : {M : Type 1} → statement M
 guess-spec = tie.close (tie.spec
-    (λ c κs. search needs) (λ c. search needs) (λ c. search needs)
-    float-from-bits-z
+    (λ c κs. search needs) (λ c κs. search needs) (λ c. search needs)
+    float-from-bits-u
     (λ c. search needs)
     float-from-bits-k
-    (λ c. search needs))
+    (λ c. search needs) (λ c. search needs) (λ c. search needs) (λ c. search needs)
+    float-from-bits-m
+    (λ c. search needs) (λ c. search needs))
