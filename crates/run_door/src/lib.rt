@@ -3,7 +3,7 @@
 ghost use mathlib.Core.Path.{_≡_};
 ghost use mathlib.Core.Bool.{not};
 ghost use lib.Dec.{eqb};
-ghost use Rattle.schur.specs.Pair.{pair};
+ghost use Rattle.pass.specs.Pair.{pair};
 ghost use Rattle.schur.specs.Run.{runOf, workAfter};
 ghost use Rattle.run_door.specs.Number.{numberOf};
 use schur::Ran;

@@ -15,7 +15,7 @@ use Rattle.matrix.proofs.Each.{filled-length, filled-at}
 use Rattle.matrix.proofs.Fitting.{Fits, fits}
 use Rattle.schur.specs.declared.run.State.{State}
 use Rattle.schur.specs.declared.run.Ran.the-variants.{Ended, BudgetReached}
-use Rattle.schur.specs.Pair.{Pair, pair}
+use Rattle.pass.specs.Pair.{Pair, pair}
 use Rattle.schur.specs.Run.{Running, running, left, answered, runFits}
 
 -- ---- by the count
@@ -38,29 +38,27 @@ answered-ended budget amax s p r e h = tested budget amax s p r false e (ne-eqb 
 
 -- ---- the test of the arguments
 
-pub record RunFits (wanted : Bool) (n tn qn wn : ℕ) : Type 0 where
+pub record RunFits (n tn wn : ℕ) : Type 0 where
   pub some : 1 ≤ n
   pub order : n ≤ 64
   pub size : tn ≡ n * n
-  pub sizeQ : wanted ≡ true → qn ≡ n * n
   pub room : wn ≡ 2 * n
 
 both : (a b : Bool) → a && b ≡ true → (a ≡ true) × (b ≡ true)
 both true b h = (refl, h)
 both false b h = absurd (false≢true h)
 
-pub run-fitting : (wanted : Bool) (n tn qn wn : ℕ) → runFits wanted n tn qn wn ≡ true → RunFits wanted n tn qn wn
+pub run-fitting : (wanted : Bool) (n tn qn wn : ℕ) → runFits wanted n tn qn wn ≡ true → RunFits n tn wn
 unfolding runFits
 run-fitting wanted n tn qn wn h =
     let a = both _ _ h in
     let b = both _ _ (a .1) in
-    let d = both _ _ (b .1) in
+    let d = both (not wanted || eqb qn (n * n)) (eqb wn (2 * n)) (b .1) in
     let f = fits n tn n n (b .0) in
     record {
       some = leb-true _ _ (a .0);
       order = f .order;
       size = f .size;
-      sizeQ = λ w. eqb-true _ _ (sym (ap (λ x. not x || eqb qn (n * n)) w) ∙ d .0);
       room = eqb-true _ _ (d .1);
     }
 

@@ -1,78 +1,20 @@
 -- T, the answer and the count do not depend on Q: not on whether it is wanted, and not on what is lent for it. Assumes nothing.
-use Prim.Native.Nat.{ℕ, _+_, _-_, min}
+use Prim.Native.Nat.{ℕ, _+_, _-_}
 use mathlib.Core.Bool.{Bool, true, false, cond}
-use mathlib.Core.Path.{_≡_, refl, sym, ap, _∙_}
+use mathlib.Core.Path.{_≡_, refl, ap, _∙_}
 use mathlib.Core.List.{List}
 use lib.Dec.{eqb, leb}
 use lib.ListN.{length}
 use lib.Ieee.{Float}
-use Rattle.loops.specs.Times.{range, range-both}
 use Rattle.loops.specs.Until.{until-both}
-use Rattle.matrix.specs.Sum.{bare}
-use Rattle.matrix.specs.Vectors.{two, three, largest, scaled}
-use Rattle.matrix.specs.declared.vector.Vector3.{Vector3}
-use Rattle.householder.specs.Axis.{axisOf}
-use Rattle.schur.specs.declared.block.Basis.{Basis}
-use Rattle.schur.specs.declared.block.Basis.the-variants.{Rotate, Stand}
+use Rattle.matrix.specs.Vectors.{largest, scaled}
+use Rattle.window.specs.Window.{delimitOf}
+use Rattle.pass.specs.Pair.{Pair, pair}
+use Rattle.pass.specs.Pass.{passOf}
+use Rattle.pass.specs.Block.{splitAt}
+use Rattle.pass.proofs.Independent.{passOf-t, splitAt-t, orderTwo-t}
 use Rattle.schur.specs.declared.run.State.{State}
-use Rattle.schur.specs.declared.run.Ran.{Ran}
-use Rattle.schur.specs.declared.window.Window.{Window}
-use Rattle.schur.specs.Pair.{Pair, pair}
-use Rattle.schur.specs.Window.{delimitOf}
-use Rattle.schur.specs.Pass.{firstColumn, bulgeEnd, columnAt, sweptPast, reflectedAt, stepAt, chased, closing, passOf}
-use Rattle.schur.specs.Block.{blockAt, basisOf, turnedBy, splitAt, orderTwo}
 use Rattle.schur.specs.Run.{Running, running, closed, after, turnTwo, turnMore, turnOf, runFrom, scaledDown, reducedPair, opened, Left, answered, runFits, ranOf, runOf}
-
--- ---- one step on T and Q: from one T, whatever stands in Q and whether it is wanted, it makes one T
-
-reflectedAt-t : (b d : Bool) (n : ℕ) (a : List Float) (k rows : ℕ) (p r : Pair) → p .t ≡ r .t → reflectedAt b n a k rows p .t ≡ reflectedAt d n a k rows r .t
-unfolding reflectedAt
-reflectedAt-t b d n a k rows p r h = ap (λ t. reflectedAt d n a k rows (pair t (r .q)) .t) h
-
-stepAt-t : (b d : Bool) (n s k rows : ℕ) (c : List Float) (p r : Pair) → p .t ≡ r .t → stepAt b n s k rows c p .t ≡ stepAt d n s k rows c r .t
-unfolding stepAt
-stepAt-t b d n s k rows c p r h = go (axisOf bare c .reflected)
-  where
-    go : (x : Bool)
-        → cond x (reflectedAt b n (axisOf bare c .axis) k rows (pair (sweptPast s n k (length c) (axisOf bare c .norm) (p .t)) (p .q))) p .t
-        ≡ cond x (reflectedAt d n (axisOf bare c .axis) k rows (pair (sweptPast s n k (length c) (axisOf bare c .norm) (r .t)) (r .q))) r .t
-    go true = reflectedAt-t b d n _ k rows _ _ (ap (sweptPast s n k (length c) (axisOf bare c .norm)) h)
-    go false = h
-
-chased-t : (b d : Bool) (n : ℕ) (first : Vector3) (s e k : ℕ) (p r : Pair) → p .t ≡ r .t → chased b n first s e k p .t ≡ chased d n first s e k r .t
-unfolding chased
-chased-t b d n first s e k p r h =
-    stepAt-t b d n s k (min (k + 4) (e + 1)) (three (columnAt first n s k (p .t))) p r h
-    ∙ ap (λ t. stepAt d n s k (min (k + 4) (e + 1)) (three (columnAt first n s k t)) r .t) h
-
-closing-t : (b d : Bool) (n s e : ℕ) (p r : Pair) → p .t ≡ r .t → closing b n s e p .t ≡ closing d n s e r .t
-unfolding closing
-closing-t b d n s e p r h =
-    stepAt-t b d n s (e - 1) (e + 1) (two (bulgeEnd n (e - 1) (p .t))) p r h
-    ∙ ap (λ t. stepAt d n s (e - 1) (e + 1) (two (bulgeEnd n (e - 1) t)) r .t) h
-
-passOf-t : (b d : Bool) (n : ℕ) (w : Window) (p r : Pair) → p .t ≡ r .t → passOf b n w p .t ≡ passOf d n w r .t
-unfolding passOf
-passOf-t b d n w p r h =
-    let s = w .start in
-    let e = w .end in
-    let first = firstColumn n s e (p .t) in
-    let swept = range-both (λ x y. x .t ≡ y .t) (chased b n first s e) (chased d n first s e) s (e - 1) p r (λ k x y. chased-t b d n first s e k x y) h in
-    closing-t b d n s e (range (chased b n first s e) s (e - 1) p) (range (chased d n first s e) s (e - 1) r) swept
-    ∙ ap (λ t. closing d n s e (range (chased d n (firstColumn n s e t) s e) s (e - 1) r) .t) h
-
-turnedBy-t : (b d : Bool) (n k : ℕ) (x : Basis) (p r : Pair) → p .t ≡ r .t → turnedBy b n k x p .t ≡ turnedBy d n k x r .t
-unfolding turnedBy
-turnedBy-t b d n k Stand p r h = h
-turnedBy-t b d n k (Rotate x) p r h = ap (λ t. turnedBy d n k (Rotate x) (pair t (r .q)) .t) h
-
-splitAt-t : (b d : Bool) (n k : ℕ) (p r : Pair) → p .t ≡ r .t → splitAt b n k p .t ≡ splitAt d n k r .t
-unfolding splitAt
-splitAt-t b d n k p r h = turnedBy-t b d n k (basisOf (blockAt n k (p .t))) p r h ∙ ap (λ t. turnedBy d n k (basisOf (blockAt n k t)) r .t) h
-
-orderTwo-t : (b d : Bool) (p r : Pair) → p .t ≡ r .t → orderTwo b p .t ≡ orderTwo d r .t
-unfolding orderTwo
-orderTwo-t b d p r h = splitAt-t false false 2 0 p r h
 
 -- ---- the run: two runs stand alike if window, count and T are the same
 

@@ -7,10 +7,10 @@ use borrow.Author.Tests.{le-leb, lt-leb}
 use lib.Dec.{leb}
 use lib.Ieee.{Float}
 use Rattle.schur.specs.declared.run.State.{State}
-use Rattle.schur.specs.declared.window.Window.{Window}
-use Rattle.schur.specs.Pair.{Pair, pair}
-use Rattle.schur.specs.Window.{window, delimited, delimitOf}
-use Rattle.schur.specs.Block.{splitAt}
+use Rattle.window.specs.declared.Window.{Window}
+use Rattle.pass.specs.Pair.{Pair, pair}
+use Rattle.window.specs.Window.{window, delimited, delimitOf}
+use Rattle.pass.specs.Block.{splitAt}
 use Rattle.schur.specs.Run.{Running, running, state, after, turnTwo}
 
 -- the two ways on from there

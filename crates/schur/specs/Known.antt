@@ -14,17 +14,17 @@ use Rattle.givens.specs.Rotated.{turnedRows, rotated, turnedColumns, rotatedRow
 use Rattle.hessenberg.specs.Known.{openedHess}
 use Rattle.schur.specs.declared.run.Ran.{Ran}
 use Rattle.schur.specs.declared.run.Ran.the-variants.{Ended, BudgetReached, Unfit}
-use Rattle.schur.specs.Pair.{pair}
-use Rattle.schur.specs.Window.{small, stands, fall, endFrom, cut, startFrom, delimitOf}
-use Rattle.schur.specs.Pass.{firstColumn, bulge, bulgeEnd, swept, sweptPast, columnAt, reflectedAt, stepAt, chased, closing, passOf}
-use Rattle.schur.specs.Block.{blockAt, discriminant, eigvalsOf, basisBy, basisOf, turnedBy, splitAt, columnsOf, orderTwo}
+use Rattle.pass.specs.Pair.{pair}
+use Rattle.window.specs.Window.{small, stands, fall, endFrom, cut, startFrom, delimitHere, delimitOf}
+use Rattle.pass.specs.Pass.{firstColumn, bulge, bulgeEnd, swept, sweptPast, columnAt, reflectedAt, stepAt, chased, closing, passHere, passOf}
+use Rattle.pass.specs.Block.{blockAt, discriminant, eigvalsOf, basisBy, basisOf, turnedBy, splitAt, columnsOf, columnsIn, orderTwo}
 use Rattle.schur.specs.Run.{Left, closed, after, turnTwo, turnMore, turnOf, runFrom, scaledDown, reducedPair, opened, answered, runFits, ranOf, runOf}
 
 -- every definition that a case computes with
 unfoldable pub openedSchur : Unit {0}
 unfolding openedHess until sub lengthOf signedLength tryNew orIdentity newOf turnedRows rotated turnedColumns rotatedRows
-    small stands fall endFrom cut startFrom delimitOf firstColumn bulge bulgeEnd swept sweptPast columnAt reflectedAt stepAt chased closing passOf
-    blockAt discriminant eigvalsOf basisBy basisOf turnedBy splitAt columnsOf orderTwo
+    small stands fall endFrom cut startFrom delimitHere delimitOf firstColumn bulge bulgeEnd swept sweptPast columnAt reflectedAt stepAt chased closing passHere passOf
+    blockAt discriminant eigvalsOf basisBy basisOf turnedBy splitAt columnsOf columnsIn orderTwo
     closed after turnTwo turnMore turnOf runFrom scaledDown reducedPair opened answered runFits ranOf runOf neg eq lt le
 openedSchur = tt
 

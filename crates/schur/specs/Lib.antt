@@ -1,8 +1,3 @@
--- In document 01's order: `Window` (delimiting), `Pass` (the double-shift pass), `Block` (a block of two, and order 2), `Run` (the whole).
--- `Pair` is T and Q together; `Known` has worked cases.
-pub mod Pair
-pub mod Window
-pub mod Pass
-pub mod Block
+-- `Run`: the whole run, over the definitions of `window` and `pass`. `Known` has worked cases.
 pub mod Run
 pub mod Known

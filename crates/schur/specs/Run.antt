@@ -13,14 +13,14 @@ use Rattle.matrix.specs.Fits.{blockFits}
 use Rattle.matrix.specs.Vectors.{largest, scaled, unscaled, filled}
 use Rattle.hessenberg.specs.Reduced.{reduced}
 use Rattle.hessenberg.specs.Unpacked.{unpackedH, unpackedQ}
-use Rattle.schur.specs.declared.window.Window.{Window}
+use Rattle.window.specs.declared.Window.{Window}
 use Rattle.schur.specs.declared.run.State.{State}
 use Rattle.schur.specs.declared.run.Ran.{Ran}
 use Rattle.schur.specs.declared.run.Ran.the-variants.{Ended, BudgetReached, Unfit}
-use Rattle.schur.specs.Window.{window, delimitOf}
-use Rattle.schur.specs.Pair.{Pair, pair, onQ}
-use Rattle.schur.specs.Pass.{passOf}
-use Rattle.schur.specs.Block.{splitAt, orderTwo}
+use Rattle.window.specs.Window.{window, delimitOf}
+use Rattle.pass.specs.Pair.{Pair, pair, onQ}
+use Rattle.pass.specs.Pass.{passOf}
+use Rattle.pass.specs.Block.{splitAt, orderTwo}
 
 -- ---- where a run stands: the window and the count of passes, and T and Q. It is always the state after delimiting.
 

@@ -1,17 +1,17 @@
 // The run: opened, then turn after turn until the window has closed or the counted passes have reached the
 // budget. T is t, Q is q; q is rewritten only where it is wanted.
 ghost use mathlib.Core.Path.{_≡_};
-ghost use mathlib.Core.Bool.{true, not, _||_};
+ghost use mathlib.Core.Bool.{not, _||_};
 ghost use lib.Dec.{eqb};
 ghost use lib.ListN.{length};
 ghost use Prim.Native.Nat.{_+_, _*_, _<_, _≤_};
 ghost use Rattle.loops.specs.Constants.{one};
 ghost use Rattle.matrix.specs.Vectors.{largest, filled};
 ghost use Rattle.hessenberg.specs.Unpacked.{unpackedQ};
-ghost use Rattle.schur.specs.Pair.{pair, onQ};
+ghost use Rattle.pass.specs.Pair.{pair, onQ};
 ghost use Rattle.schur.specs.Run.{running, turnTwo, turnMore, turnOf, runFrom, scaledDown, reducedPair, opened, left, answered, runFits, ranOf, runOf, workAfter};
-use crate::window::Window;
-use crate::window::delimit_subproblem;
+use window::Window;
+use window::delimit_subproblem;
 
 // Where a run stands: the window that is open, and the passes counted so far.
 pub struct State {
@@ -35,7 +35,7 @@ fn turn_two(s: State, t: &mut [f64], q: &mut [f64], n: usize, wanted: bool, eps:
 {
     let start = s.window.start;
     let end = s.window.end;
-    crate::block::split(t, q, n, wanted, start);
+    pass::split(t, q, n, wanted, start);
     if end <= 2 {
         return State {
             window: Window { start: 0, end: 0 },
@@ -56,7 +56,7 @@ fn turn_more(s: State, t: &mut [f64], q: &mut [f64], n: usize, wanted: bool, eps
 {
     let start = s.window.start;
     let end = s.window.end;
-    crate::pass::double_shift(t, q, n, wanted, Window { start, end });
+    pass::double_shift(t, q, n, wanted, Window { start, end });
     State {
         window: delimit_subproblem(t, n, eps, end),
         passes: s.passes + 1,
@@ -200,7 +200,7 @@ fn run_fitting(
     budget: u64,
     work: &mut [f64],
 ) -> Ran
-    requires { ⌜ (n ≤ 64) × (1 ≤ n) × (length (now t) ≡ n * n) × (wanted ≡ true → length (now q) ≡ n * n) ⌝ }
+    requires { ⌜ (n ≤ 64) × (1 ≤ n) × (length (now t) ≡ n * n) ⌝ }
     ensures { λ r. ⌜ left r (pair (now (t .exit)) (now (q .exit))) ≡ ranOf wanted n eps budget (pair (now (t .entry)) (now (q .entry))) (now (work .entry)) ⌝ }
 {
     if n == 1 {
@@ -208,7 +208,7 @@ fn run_fitting(
         return Ran::Ended(0);
     }
     if n == 2 {
-        crate::block::decompose_2x2(t, q, wanted);
+        pass::decompose_2x2(t, q, wanted);
         return Ran::Ended(0);
     }
     run_large(t, q, n, wanted, eps, budget, work)

@@ -9,7 +9,7 @@ use Rattle.schur.proofs.Answering.{RunFits, run-fitting, filled-same}
 use Rattle.schur.proofs.run.do_decompose.Statement.{statement}
 use Rattle.schur.proofs.run.do_decompose.Tie as tie
 
-fitted : (c : tie.Else1) → let x = c .before .before .before .before .before .args in RunFits (x .wanted) (x .n) (length (x .t .now)) (length (x .q .now)) (length (x .work .now))
+fitted : (c : tie.Else1) → let x = c .before .before .before .before .before .args in RunFits (x .n) (length (x .t .now)) (length (x .work .now))
 fitted c = run-fitting _ _ _ _ _ (inside (c .before .run-fits .ensures) (c .if1 .left))
 
 returns : tie.Need-returns
@@ -17,7 +17,7 @@ unfolding runOf workAfter
 returns c = (rw (outside (c .before .run-fits .ensures) (c .if1 .taken)), rw (outside (c .before .run-fits .ensures) (c .if1 .taken)))
 
 run-fitting-requires : tie.Need-run-fitting-requires
-run-fitting-requires c κs = let f = fitted (c .before .before .before) in (f .order, f .some, f .size, f .sizeQ)
+run-fitting-requires c κs = let f = fitted (c .before .before .before) in (f .order, f .some, f .size)
 
 returns-2 : tie.Need-returns-2
 unfolding runOf workAfter

@@ -1,7 +1,5 @@
 -- `schur::run::run_fitting` meets its contract. Assumes nothing.
 use native.Mathlib.Omega.{arith}
-use Prim.Native.Nat.{_*_}
-use mathlib.Core.Path.{_≡_, ap, _∙_}
 use borrow.Author.Tests.{eq-eqb, ne-eqb}
 use Rattle.schur.specs.Run.{ranOf}
 use Rattle.schur.proofs.run.run_fitting.Statement.{statement}
@@ -10,12 +8,6 @@ use Rattle.schur.proofs.run.run_fitting.Tie as tie
 returns : tie.Need-returns
 unfolding ranOf
 returns c = rw (eq-eqb _ _ (c .before .before .before .before .if1 .taken), c .before .before .one-in-q .ensures)
-
--- order 2 has four entries
-decompose-2x2-requires : tie.Need-decompose-2x2-requires
-decompose-2x2-requires c κs =
-    let four = ap (λ m. m * m) (c .before .before .if2 .taken) in
-    (omega arith, λ w. c .before .before .before .before .before .before .before .pre .3 w ∙ four)
 
 returns-2 : tie.Need-returns-2
 unfolding ranOf
@@ -26,5 +18,5 @@ unfolding ranOf
 returns-3 c = rw (ne-eqb _ _ (c .before .before .before .before .before .before .before .before .before .before .before .if1 .left), ne-eqb _ _ (c .before .before .before .before .before .before .before .before .before .before .if2 .left)) (c .before .before .before .before .before .before .run-large .ensures)
 
 pub run-fitting-spec : {M : Type 1} → statement M
-run-fitting-spec = tie.close (tie.spec (λ c κs. omega arith) (λ c. omega arith) returns decompose-2x2-requires (λ c. omega arith) (λ c. omega arith) returns-2
+run-fitting-spec = tie.close (tie.spec (λ c κs. omega arith) (λ c. omega arith) returns (λ c κs. omega arith) (λ c. omega arith) (λ c. omega arith) returns-2
     (λ c κs. omega arith) (λ c. omega arith) (λ c. omega arith) (λ c. omega arith) returns-3)

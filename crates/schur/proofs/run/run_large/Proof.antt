@@ -2,7 +2,7 @@
 use native.Mathlib.Omega.{arith}
 use mathlib.Core.Path.{_≡_, sym, ap, _∙_}
 use Rattle.matrix.specs.Vectors.{largest, scaled}
-use Rattle.schur.specs.Pair.{pair}
+use Rattle.pass.specs.Pair.{pair}
 use Rattle.schur.specs.Run.{Running, running, runFrom, opened, left, answered}
 use Rattle.schur.proofs.Answering.{answered-reached, answered-ended}
 use Rattle.schur.proofs.run.run_large.Statement.{statement}

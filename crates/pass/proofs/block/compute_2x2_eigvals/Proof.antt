@@ -1,0 +1,17 @@
+-- `pass::block::compute_2x2_eigvals` meets its contract. Assumes nothing.
+use native.Mathlib.Omega.{arith}
+use Rattle.pass.specs.Block.{discriminant}
+use Rattle.pass.proofs.BlockWays.{eigvals-real, eigvals-none}
+use Rattle.pass.proofs.block.compute_2x2_eigvals.Statement.{statement}
+use Rattle.pass.proofs.block.compute_2x2_eigvals.Tie as tie
+
+returns : tie.Need-returns
+unfolding discriminant
+returns c = rw (c .before .sqrt .ensures) (eigvals-real (c .before .before .before .before .before .args .m) (c .before .before .if1 .taken))
+
+returns-2 : tie.Need-returns-2
+unfolding discriminant
+returns-2 c = eigvals-none (c .before .before .before .args .m) (c .if1 .left)
+
+pub compute-2x2-eigvals-spec : {M : Type 1} → statement M
+compute-2x2-eigvals-spec = tie.close (tie.spec (λ c κs. omega arith) returns returns-2)

@@ -1,0 +1,12 @@
+-- `pass::shift::first_column` meets its contract. Assumes nothing.
+use native.Mathlib.Omega.{arith}
+use Rattle.pass.specs.Pass.{firstColumn}
+use Rattle.pass.proofs.shift.first_column.Statement.{statement}
+use Rattle.pass.proofs.shift.first_column.Tie as tie
+
+pub first-column-spec : {M : Type 1} → statement M
+unfolding firstColumn
+first-column-spec = tie.close (tie.spec (λ c. omega arith) (λ c κs. omega arith) (λ c. omega arith) (λ c κs. omega arith) (λ c. omega arith)
+    (λ c κs. omega arith) (λ c. omega arith) (λ c. omega arith) (λ c κs. omega arith) (λ c. omega arith) (λ c. omega arith) (λ c κs. omega arith)
+    (λ c κs. omega arith) (λ c κs. omega arith) (λ c κs. omega arith) (λ c κs. omega arith)
+    (λ c. rw (c .get9 .ensures, c .before .get8 .ensures, c .before .before .get7 .ensures, c .before .before .before .get6 .ensures, c .before .before .before .before .get5 .ensures, c .before .before .before .before .before .get4 .ensures, c .before .before .before .before .before .before .get3 .ensures, c .before .before .before .before .before .before .before .get2 .ensures, c .before .before .before .before .before .before .before .before .get .ensures)))

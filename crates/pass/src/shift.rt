@@ -1,0 +1,249 @@
+// One double-shift pass over a window of three or more rows. T is t, Q is q; q is rewritten only where it is
+// wanted.
+ghost use mathlib.Core.Path.{_≡_};
+ghost use lib.ListN.{length};
+ghost use Prim.Native.Nat.{_+_, _*_, _<_, _≤_, min};
+ghost use Rattle.matrix.specs.Vectors.{two, three};
+ghost use Rattle.pass.specs.Pair.{pair};
+ghost use Rattle.pass.specs.Pass.{firstColumn, bulge, bulgeEnd, columnAt, sweptPast, reflectedAt, stepAt, chased, closing, passHere, passOf};
+use crate::place::get;
+use crate::place::put;
+use matrix::Vector2;
+use matrix::Vector3;
+use window::Window;
+
+// The first column, from the shifts.
+fn first_column(t: &[f64], n: usize, start: usize, end: usize) -> Vector3
+    requires { ⌜ (n ≤ 64) × (length (now t) ≡ n * n) × (start + 2 ≤ end) × (end < n) ⌝ }
+    ensures { λ r. ⌜ r ≡ firstColumn n start end (now (t .entry)) ⌝ }
+{
+    let m = end - 1;
+    let h11 = get(t, n, start, start);
+    let h12 = get(t, n, start, start + 1);
+    let h21 = get(t, n, start + 1, start);
+    let h22 = get(t, n, start + 1, start + 1);
+    let h32 = get(t, n, start + 2, start + 1);
+    let hnn = get(t, n, end, end);
+    let hmm = get(t, n, m, m);
+    let hnm = get(t, n, end, m);
+    let hmn = get(t, n, m, end);
+    let tra = hnn + hmm;
+    let det = hnn * hmm - hnm * hmn;
+    Vector3 {
+        x: h11 * h11 + h12 * h21 - tra * h11 + det,
+        y: h21 * (h11 + h22 - tra),
+        z: h21 * h32,
+    }
+}
+
+// The bulge at k: column k - 1 from row k on, three numbers of it, and two at the window's end.
+fn bulge3(t: &[f64], n: usize, k: usize) -> Vector3
+    requires { ⌜ (n ≤ 64) × (length (now t) ≡ n * n) × (0 < k) × (k + 2 < n) ⌝ }
+    ensures { λ r. ⌜ r ≡ bulge n k (now (t .entry)) ⌝ }
+{
+    let m = k - 1;
+    Vector3 {
+        x: get(t, n, k, m),
+        y: get(t, n, k + 1, m),
+        z: get(t, n, k + 2, m),
+    }
+}
+
+fn bulge2(t: &[f64], n: usize, k: usize) -> Vector2
+    requires { ⌜ (n ≤ 64) × (length (now t) ≡ n * n) × (0 < k) × (k + 1 < n) ⌝ }
+    ensures { λ r. ⌜ r ≡ bulgeEnd n k (now (t .entry)) ⌝ }
+{
+    let m = k - 1;
+    Vector2 {
+        x: get(t, n, k, m),
+        y: get(t, n, k + 1, m),
+    }
+}
+
+// What the reflection makes of column k - 1, past the first step: the norm in row k, +0 in the next rows.
+fn sweep3(t: &mut [f64], n: usize, start: usize, k: usize, norm: f64)
+    requires { ⌜ (n ≤ 64) × (length (now t) ≡ n * n) × (k + 2 < n) ⌝ }
+    ensures { λ _. ⌜ now (t .exit) ≡ sweptPast start n k 3 norm (now (t .entry)) ⌝ }
+{
+    if k <= start {
+        return;
+    }
+    let m = k - 1;
+    put(t, n, k, m, norm);
+    put(t, n, k + 1, m, 0.0);
+    put(t, n, k + 2, m, 0.0);
+}
+
+fn sweep2(t: &mut [f64], n: usize, start: usize, k: usize, norm: f64)
+    requires { ⌜ (n ≤ 64) × (length (now t) ≡ n * n) × (k + 1 < n) ⌝ }
+    ensures { λ _. ⌜ now (t .exit) ≡ sweptPast start n k 2 norm (now (t .entry)) ⌝ }
+{
+    if k <= start {
+        return;
+    }
+    let m = k - 1;
+    put(t, n, k, m, norm);
+    put(t, n, k + 1, m, 0.0);
+}
+
+// Both sides of T by the axis a from row and column k on, its columns in the first `rows` rows; and Q.
+fn reflect_at3(
+    a: Vector3,
+    t: &mut [f64],
+    q: &mut [f64],
+    n: usize,
+    wanted: bool,
+    k: usize,
+    rows: usize,
+)
+    ensures { λ _. ⌜ pair (now (t .exit)) (now (q .exit)) ≡ reflectedAt wanted n (three a) k rows (pair (now (t .entry)) (now (q .entry))) ⌝ }
+{
+    reflection::reflect3(a, t, n, k, k, n);
+    reflection::reflect_rows3(a, t, n, rows, k);
+    if wanted {
+        reflection::reflect_rows3(a, q, n, n, k);
+    }
+}
+
+fn reflect_at2(
+    a: Vector2,
+    t: &mut [f64],
+    q: &mut [f64],
+    n: usize,
+    wanted: bool,
+    k: usize,
+    rows: usize,
+)
+    ensures { λ _. ⌜ pair (now (t .exit)) (now (q .exit)) ≡ reflectedAt wanted n (two a) k rows (pair (now (t .entry)) (now (q .entry))) ⌝ }
+{
+    reflection::reflect2(a, t, n, k, k, n);
+    reflection::reflect_rows2(a, t, n, rows, k);
+    if wanted {
+        reflection::reflect_rows2(a, q, n, n, k);
+    }
+}
+
+// The step at k by the column, in a pass that began at `start`.
+fn step3(
+    column: Vector3,
+    t: &mut [f64],
+    q: &mut [f64],
+    n: usize,
+    wanted: bool,
+    start: usize,
+    k: usize,
+    rows: usize,
+)
+    requires { ⌜ (n ≤ 64) × (length (now t) ≡ n * n) × (k + 2 < n) ⌝ }
+    ensures { λ _. ⌜ pair (now (t .exit)) (now (q .exit)) ≡ stepAt wanted n start k rows (three column) (pair (now (t .entry)) (now (q .entry))) ⌝ }
+{
+    let r = householder::reflection_axis3(column);
+    if !r.reflected {
+        return;
+    }
+    sweep3(t, n, start, k, r.norm);
+    reflect_at3(r.axis, t, q, n, wanted, k, rows);
+}
+
+fn step2(
+    column: Vector2,
+    t: &mut [f64],
+    q: &mut [f64],
+    n: usize,
+    wanted: bool,
+    start: usize,
+    k: usize,
+    rows: usize,
+)
+    requires { ⌜ (n ≤ 64) × (length (now t) ≡ n * n) × (k + 1 < n) ⌝ }
+    ensures { λ _. ⌜ pair (now (t .exit)) (now (q .exit)) ≡ stepAt wanted n start k rows (two column) (pair (now (t .entry)) (now (q .entry))) ⌝ }
+{
+    let r = householder::reflection_axis2(column);
+    if !r.reflected {
+        return;
+    }
+    sweep2(t, n, start, k, r.norm);
+    reflect_at2(r.axis, t, q, n, wanted, k, rows);
+}
+
+// The column of the step at k: at the start the first column, past it the bulge.
+fn column_at(first: Vector3, t: &[f64], n: usize, start: usize, k: usize) -> Vector3
+    requires { ⌜ (n ≤ 64) × (length (now t) ≡ n * n) × (k + 2 < n) ⌝ }
+    ensures { λ r. ⌜ r ≡ columnAt first n start k (now (t .entry)) ⌝ }
+{
+    if k <= start {
+        return first;
+    }
+    bulge3(t, n, k)
+}
+
+// How many rows of T the step at k reflects in its columns: down to k + 3, or to the window's end.
+fn rows_at(k: usize, end: usize) -> usize
+    requires { ⌜ (k < 64) × (end < 64) ⌝ }
+    ensures { λ r. ⌜ r ≡ min (k + 4) (end + 1) ⌝ }
+{
+    if k + 4 < end + 1 {
+        return k + 4;
+    }
+    end + 1
+}
+
+// The step at k by three numbers.
+fn chase(
+    first: Vector3,
+    t: &mut [f64],
+    q: &mut [f64],
+    n: usize,
+    wanted: bool,
+    start: usize,
+    end: usize,
+    k: usize,
+)
+    requires { ⌜ (n ≤ 64) × (length (now t) ≡ n * n) × (k + 1 < end) × (end < n) ⌝ }
+    ensures { λ _. ⌜ pair (now (t .exit)) (now (q .exit)) ≡ chased wanted n first start end k (pair (now (t .entry)) (now (q .entry))) ⌝ }
+{
+    let column = column_at(first, t, n, start, k);
+    step3(column, t, q, n, wanted, start, k, rows_at(k, end));
+}
+
+// The last step, by two.
+fn close(t: &mut [f64], q: &mut [f64], n: usize, wanted: bool, start: usize, end: usize)
+    requires { ⌜ (n ≤ 64) × (length (now t) ≡ n * n) × (start + 2 ≤ end) × (end < n) ⌝ }
+    ensures { λ _. ⌜ pair (now (t .exit)) (now (q .exit)) ≡ closing wanted n start end (pair (now (t .entry)) (now (q .entry))) ⌝ }
+{
+    let m = end - 1;
+    let column = bulge2(t, n, m);
+    step2(column, t, q, n, wanted, start, m, end + 1);
+}
+
+// Every step of the pass.
+fn shift_here(t: &mut [f64], q: &mut [f64], n: usize, wanted: bool, w: Window)
+    requires { ⌜ (n ≤ 64) × (length (now t) ≡ n * n) × (w .start + 2 ≤ w .end) × (w .end < n) ⌝ }
+    ensures { λ _. ⌜ pair (now (t .exit)) (now (q .exit)) ≡ passHere wanted n w (pair (now (t .entry)) (now (q .entry))) ⌝ }
+{
+    let start = w.start;
+    let end = w.end;
+    let first = first_column(t, n, start, end);
+    for k in start..end - 1 {
+        chase(first, t, q, n, wanted, start, end, k);
+    }
+    close(t, q, n, wanted, start, end);
+}
+
+// The same for every argument: nothing is done where the window is none of three rows or more of the matrix.
+pub fn double_shift(t: &mut [f64], q: &mut [f64], n: usize, wanted: bool, w: Window)
+    ensures { λ _. ⌜ pair (now (t .exit)) (now (q .exit)) ≡ passOf wanted n w (pair (now (t .entry)) (now (q .entry))) ⌝ }
+{
+    let start = w.start;
+    let end = w.end;
+    if !matrix::block_fits(n, t.len(), end, 1, end, 1) {
+        return;
+    }
+    if end < 2 {
+        return;
+    }
+    if start > end - 2 {
+        return;
+    }
+    shift_here(t, q, n, wanted, Window { start, end });
+}

@@ -1,0 +1,47 @@
+-- `window::delimit_end` meets its contract. Assumes nothing.
+use native.Mathlib.Omega.{arith}
+use Prim.Native.Nat.{_*_, _≤_}
+use mathlib.Core.Bool.{not, true, false}
+use mathlib.Core.Path.{_≡_, refl, sym, ap, _∙_}
+use lib.ListN.{length}
+use Rattle.loops.specs.Until.{until, until-out, until-stop, until-turn}
+use Rattle.window.specs.Window.{small, falling, stands, fall, endFrom}
+use Rattle.window.proofs.delimit_end.Statement.{statement}
+use Rattle.window.proofs.delimit_end.Tie as tie
+
+abbrev Inv-loop : tie.InvT-loop
+Inv-loop t₀ n eps end e₀ t e = (length t ≡ n * n) × (e ≤ end) × (until (stands n eps) (fall n) e (falling e t) ≡ endFrom n eps end t₀)
+
+abbrev μ-loop : tie.MeasureT-loop
+μ-loop t₀ n eps end e₀ t e = e
+
+loop-holds : tie.Need-loop-holds Inv-loop μ-loop
+unfolding endFrom
+loop-holds c = (omega arith, omega arith, refl)
+
+-- the entry does not pass for zero
+returns : tie.Need-returns Inv-loop μ-loop
+unfolding stands
+returns c =
+    let l = c .before .before .before .before .loop in
+    let stop : stands _ _ (falling (l .e) (l .t)) ≡ true = ap not (sym (c .before .is-small .ensures)) ∙ c .if1 .taken in
+    (sym (until-stop _ _ _ _ stop) ∙ l .inv .2, omega arith)
+
+loop-again : tie.Need-loop-again Inv-loop μ-loop
+unfolding stands fall
+loop-again c =
+    let l = c .before .before .before .before .before .before .before .before .loop in
+    let goes : stands _ _ (falling (l .e) (l .t)) ≡ false = ap not (sym (c .before .before .before .before .before .is-small .ensures)) ∙ c .before .before .before .before .if1 .left in
+    (omega arith, omega arith, rw (c .before .before .put .ensures) (sym (until-turn _ _ _ _ (omega arith) goes) ∙ l .inv .2))
+
+-- row 0
+returns-2 : tie.Need-returns-2 Inv-loop μ-loop
+returns-2 c =
+    let l = c .before .loop in
+    let x = c .before .before .before .args in
+    let e : l .e ≡ 0 = omega arith in
+    (sym (ap (λ k. until (stands (x .n) (x .eps)) (fall (x .n)) k (falling (l .e) (l .t))) e ∙ until-out _ _ _) ∙ l .inv .2, omega arith)
+
+pub delimit-end-spec : {M : Type 1} → statement M
+delimit-end-spec = tie.close (tie.spec Inv-loop μ-loop loop-holds (λ c κs. omega arith) (λ c. omega arith) returns (λ c. omega arith)
+    (λ c κs. omega arith) (λ c. omega arith) loop-again (λ c. omega arith) returns-2)

@@ -1,0 +1,15 @@
+-- `window::delimit_here` meets its contract. Assumes nothing.
+use native.Mathlib.Omega.{arith}
+use mathlib.Core.Path.{_≡_, sym, ap, _∙_}
+use Rattle.window.specs.Window.{falling, endFrom, delimited}
+use Rattle.window.proofs.Delimiting.{delimit-closed, delimit-open, delimit-cut}
+use Rattle.window.proofs.delimit_here.Statement.{statement}
+use Rattle.window.proofs.delimit_here.Tie as tie
+
+pub delimit-here-spec : {M : Type 1} → statement M
+delimit-here-spec = tie.close (tie.spec (λ c κs. omega arith) (λ c. omega arith)
+    (λ c. (delimit-closed _ _ _ _ _ _ (c .before .before .before .delimit-end .ensures .0) (c .if1 .taken), omega arith, omega arith))
+    (λ c κs. omega arith) (λ c. omega arith) (λ c κs. omega arith) (λ c. omega arith)
+    (λ c. (rw (c .before .before .put .ensures) (delimit-cut _ _ _ _ _ _ _ (c .before .before .before .before .before .before .before .before .before .before .delimit-end .ensures .0) (c .before .before .before .before .before .delimit-start .ensures .0) (omega arith)), omega arith, omega arith))
+    (λ c. omega arith)
+    (λ c. (delimit-open _ _ _ _ _ _ _ (c .before .before .before .before .before .before .delimit-end .ensures .0) (c .before .delimit-start .ensures .0) (omega arith), omega arith, omega arith)))

@@ -1,0 +1,2 @@
+-- `Window`: delimiting, from the end upward and then to the start.
+pub mod Window
