@@ -2,4 +2,5 @@
 pub mod Independent
 pub mod BlockFrames
 mod BlockWays
+mod Fitted
 mod Swept

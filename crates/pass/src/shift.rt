@@ -236,7 +236,15 @@ pub fn double_shift(t: &mut [f64], q: &mut [f64], n: usize, wanted: bool, w: Win
 {
     let start = w.start;
     let end = w.end;
-    if !matrix::block_fits(n, t.len(), end, 1, end, 1) {
+    if !matrix::block_fits(n, t.len(), 0, n, 0, n) {
+        return;
+    }
+    if end > 64 {
+        return;
+    }
+    // By the place of the window's last entry, not by `end < n`: told that, the compiler tests once for all
+    // steps whether the columns of Q overlap, has to say yes, and gives up its vector operations.
+    if end * n + end >= t.len() {
         return;
     }
     if end < 2 {
