@@ -16,7 +16,7 @@ use Rattle.loops.specs.Times.{range, range-none, range-more, range-done, range-
 use Rattle.matrix.specs.Entries.{Rule, atEntry, inBlock}
 
 -- whether an entry lies in the block
-decInside : (a b c d i j : ℕ) → Dec (Inside a b c d i j)
+pub decInside : (a b c d i j : ℕ) → Dec (Inside a b c d i j)
 decInside a b c d i j = go (decLt i a) (decLt i b) (decLt j c) (decLt j d)
   where
     go : Dec (i < a) → Dec (i < b) → Dec (j < c) → Dec (j < d) → Dec (Inside a b c d i j)

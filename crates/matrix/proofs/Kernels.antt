@@ -2,7 +2,7 @@
 -- rule, and where the block does not lie in the matrix nothing happens. A kernel's own laws are these at its block and its rule.
 -- `entryOf` and `putOf`, the total read and write, have theirs here too. Assumes nothing.
 use Prim.Native.Nat.{ℕ, _+_, _*_, _≤_, _<_}
-use mathlib.Core.Path.{_≡_, refl, _∙_}
+use mathlib.Core.Path.{_≡_, refl, sym, _∙_}
 use mathlib.Core.List.{List}
 use native.Mathlib.Omega.{arith}
 use lib.ListN.{length, set}
@@ -14,7 +14,7 @@ use Rattle.loops.specs.Times.{range-one}
 use Rattle.matrix.specs.Fits.{blockFits}
 use Rattle.matrix.specs.Entries.{Rule, inBlock, onEntries, entryOf, putOf}
 use Rattle.matrix.proofs.Fitting.{Fits, fits, fitting}
-use Rattle.matrix.proofs.Blocks.{inBlock-length, inBlock-frame, inBlock-at}
+use Rattle.matrix.proofs.Blocks.{decInside, inBlock-length, inBlock-frame, inBlock-at}
 
 -- it keeps what the loops keep where the block lies in the matrix
 pub onEntries-hold : (P : List Float → Type 0) (n r0 r1 c0 c1 : ℕ) (g : Rule) (t : List Float) → (Fits n (length t) r1 c1 → P (inBlock n r0 r1 c0 c1 g t)) → P t → P (onEntries n r0 r1 c0 c1 g t)
@@ -40,6 +40,17 @@ onEntries-does n r0 r1 c0 c1 g t h k l m = rw (fitting n (length t) r1 c1 h k l 
 pub onEntries-at : (n r0 r1 c0 c1 : ℕ) (g : Rule) (t : List Float) (i j : ℕ) → n ≤ 64 → length t ≡ n * n → r1 ≤ n → c1 ≤ n → Inside r0 r1 c0 c1 i j → onEntries n r0 r1 c0 c1 g t ! place n i j ≡ g i j (t ! place n i j)
 onEntries-at n r0 r1 c0 c1 g t i j h k l m at =
     rw (onEntries-does n r0 r1 c0 c1 g t h k l m) (inBlock-at n r0 r1 c0 c1 g t i j k l m at)
+
+-- an entry that two matrices have in common, and that two kernels reach or leave alike, they also have in common afterwards
+pub onEntries-alike : (n r0 r1 c0 c1 d0 d1 : ℕ) (g h : Rule) (t s : List Float) (i j : ℕ) → n ≤ 64 → length t ≡ n * n → length s ≡ n * n → r1 ≤ n → c1 ≤ n → d1 ≤ n → i < n
+    → (Inside r0 r1 c0 c1 i j → Inside r0 r1 d0 d1 i j) → (Inside r0 r1 d0 d1 i j → Inside r0 r1 c0 c1 i j)
+    → t ! place n i j ≡ s ! place n i j → g i j (t ! place n i j) ≡ h i j (s ! place n i j)
+    → onEntries n r0 r1 c0 c1 g t ! place n i j ≡ onEntries n r0 r1 d0 d1 h s ! place n i j
+onEntries-alike n r0 r1 c0 c1 d0 d1 g h t s i j m size size' r c d l to from same rule = cases (decInside r0 r1 c0 c1 i j)
+  where
+    cases : Dec (Inside r0 r1 c0 c1 i j) → onEntries n r0 r1 c0 c1 g t ! place n i j ≡ onEntries n r0 r1 d0 d1 h s ! place n i j
+    cases (yes at) = onEntries-at n r0 r1 c0 c1 g t i j m size r c at ∙ rule ∙ sym (onEntries-at n r0 r1 d0 d1 h s i j m size' r d (to at))
+    cases (no out) = onEntries-frame n r0 r1 c0 c1 g t i j l out ∙ same ∙ sym (onEntries-frame n r0 r1 d0 d1 h s i j l (λ o. out (from o)))
 
 -- a block of one entry
 pub inBlock-one : (n i j : ℕ) (g : Rule) (t : List Float) → inBlock n i (i + 1) j (j + 1) g t ≡ set t (place n i j) (g i j (t ! place n i j))

@@ -3,7 +3,10 @@
 ghost use mathlib.Core.Path.{_≡_};
 ghost use lib.ListN.{length};
 ghost use Prim.Native.Nat.{_+_, _*_, _<_, _≤_, min};
+ghost use Rattle.loops.specs.Constants.{one};
+ghost use Rattle.matrix.specs.Sum.{bare};
 ghost use Rattle.matrix.specs.Vectors.{two, three};
+ghost use Rattle.reflection.specs.Reflected.{reflected, reflectedRows};
 ghost use Rattle.pass.specs.Pair.{pair};
 ghost use Rattle.pass.specs.Pass.{firstColumn, bulge, bulgeEnd, columnAt, sweptPast, reflectedAt, stepAt, chased, closing, passHere, passOf};
 use crate::place::get;
@@ -86,7 +89,19 @@ fn sweep2(t: &mut [f64], n: usize, start: usize, k: usize, norm: f64)
     put(t, n, k + 1, m, 0.0);
 }
 
-// Both sides of T by the axis a from row and column k on, its columns in the first `rows` rows; and Q.
+// Both sides of T by the axis a from row and column k on, its columns in the first `rows` rows. The columns right
+// of the three that the rows' reflection rewrites come last: the next step's axis does not wait for them.
+fn both_sides3(a: Vector3, t: &mut [f64], n: usize, k: usize, rows: usize)
+    requires { ⌜ (n ≤ 64) × (length (now t) ≡ n * n) × (k + 2 < n) × (rows ≤ n) ⌝ }
+    ensures { λ _. ⌜ now (t .exit) ≡ reflectedRows (three a) one n rows k (reflected bare (three a) one n k k n (now (t .entry))) ⌝ }
+{
+    let right = k + 3;
+    reflection::reflect3(a, t, n, k, k, right);
+    reflection::reflect_rows3(a, t, n, rows, k);
+    reflection::reflect3(a, t, n, k, right, n);
+}
+
+// The same; and Q.
 fn reflect_at3(
     a: Vector3,
     t: &mut [f64],
@@ -96,15 +111,16 @@ fn reflect_at3(
     k: usize,
     rows: usize,
 )
+    requires { ⌜ (n ≤ 64) × (length (now t) ≡ n * n) × (k + 2 < n) × (rows ≤ n) ⌝ }
     ensures { λ _. ⌜ pair (now (t .exit)) (now (q .exit)) ≡ reflectedAt wanted n (three a) k rows (pair (now (t .entry)) (now (q .entry))) ⌝ }
 {
-    reflection::reflect3(a, t, n, k, k, n);
-    reflection::reflect_rows3(a, t, n, rows, k);
+    both_sides3(a, t, n, k, rows);
     if wanted {
         reflection::reflect_rows3(a, q, n, n, k);
     }
 }
 
+// Both sides and Q by an axis of two.
 fn reflect_at2(
     a: Vector2,
     t: &mut [f64],
@@ -134,7 +150,7 @@ fn step3(
     k: usize,
     rows: usize,
 )
-    requires { ⌜ (n ≤ 64) × (length (now t) ≡ n * n) × (k + 2 < n) ⌝ }
+    requires { ⌜ (n ≤ 64) × (length (now t) ≡ n * n) × (k + 2 < n) × (rows ≤ n) ⌝ }
     ensures { λ _. ⌜ pair (now (t .exit)) (now (q .exit)) ≡ stepAt wanted n start k rows (three column) (pair (now (t .entry)) (now (q .entry))) ⌝ }
 {
     let r = householder::reflection_axis3(column);
