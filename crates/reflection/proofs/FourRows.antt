@@ -1,5 +1,5 @@
--- Four rows at a time: their sums as the loop makes them, and one column of them put. In the manner of the matrix's `Turns`. Assumes nothing.
-use Prim.Native.Nat.{ℕ, _+_, _≤_}
+-- Four rows at a time, and eight as twice four: their sums as the loop makes them, and one column of four put. In the manner of the matrix's `Turns`. Assumes nothing.
+use Prim.Native.Nat.{ℕ, _+_, _*_, _≤_}
 use mathlib.Core.Path.{_≡_, refl, sym, ap, _∙_}
 use mathlib.Core.Logic.{_≢_}
 use mathlib.Core.List.{List}
@@ -18,7 +18,8 @@ use Rattle.matrix.proofs.Blocks.{inBlock-no-columns, inBlock-column}
 use Rattle.matrix.proofs.Sums.{bare-one, bare-more}
 use Rattle.matrix.proofs.Turns.{down-three}
 use Rattle.reflection.specs.declared.rows.Four.{Four}
-use Rattle.reflection.specs.Inner.{four, fourTimes, fourPlus, fourAlong}
+use Rattle.reflection.specs.declared.rows.Eight.{Eight}
+use Rattle.reflection.specs.Inner.{four, fourTimes, fourPlus, fourAlong, eightTimes, eightPlus, eightAlong}
 
 -- ---- the sums
 
@@ -53,6 +54,22 @@ four-more j a n c0 t i h = rw (along-more j a n c0 t i h, along-more j a n c0 t 
 pub four-done : (j : ℕ) (a : List Float) (n c0 : ℕ) (t : List Float) (i : ℕ) → j ≡ length a → four-to j a n c0 t i ≡ fourAlong a n c0 t i
 unfolding four-to along-to fourAlong along
 four-done j a n c0 t i e = rw e
+
+-- of the rows from i to i + 7
+pub eight-to : ℕ → List Float → ℕ → ℕ → List Float → ℕ → Eight
+eight-to k a n c0 t i = record { upper = four-to k a n c0 t i; lower = four-to k a n c0 t (i + 4) }
+
+pub eight-one : (a : List Float) (n c0 : ℕ) (t : List Float) (i : ℕ) → eightTimes t (place n i c0) (a ! 0) ≡ eight-to 1 a n c0 t i
+unfolding eight-to
+eight-one a n c0 t i = rw (add-assoc (c0 * n) i 4, four-one a n c0 t i, four-one a n c0 t (i + 4))
+
+pub eight-more : (j : ℕ) (a : List Float) (n c0 : ℕ) (t : List Float) (i : ℕ) → 1 ≤ j → eightPlus t (place n i (c0 + j)) (a ! j) (eight-to j a n c0 t i) ≡ eight-to (j + 1) a n c0 t i
+unfolding eight-to
+eight-more j a n c0 t i h = rw (add-assoc ((c0 + j) * n) i 4, four-more j a n c0 t i h, four-more j a n c0 t (i + 4) h)
+
+pub eight-done : (j : ℕ) (a : List Float) (n c0 : ℕ) (t : List Float) (i : ℕ) → j ≡ length a → eight-to j a n c0 t i ≡ eightAlong a n c0 t i
+unfolding eight-to
+eight-done j a n c0 t i e = rw (four-done j a n c0 t i e, four-done j a n c0 t (i + 4) e)
 
 -- ---- one column of four rows
 
@@ -99,9 +116,8 @@ column-four n i j g t h =
     (places n (i + 3) j (i + 1) j (omega arith) (omega arith) (λ e f. omega arith))
     (places n (i + 3) j (i + 2) j (omega arith) (omega arith) (λ e f. omega arith))
 
--- a turn down: what is put is what the rule says
-pub down-four : (n i c0 j : ℕ) (g : Rule) (t₀ t : List Float) (a b d f : Float) → i + 4 ≤ n → c0 ≤ j → t ≡ inBlock n i (i + 4) c0 j g t₀
+-- what is put is what the rule says
+pub put-column : (n i j : ℕ) (g : Rule) (t : List Float) (a b d f : Float) → i + 4 ≤ n
     → a ≡ g i j (t ! place n i j) → b ≡ g (i + 1) j (t ! place n (i + 1) j) → d ≡ g (i + 2) j (t ! place n (i + 2) j) → f ≡ g (i + 3) j (t ! place n (i + 3) j)
-    → put-four t (place n i j) (place n (i + 1) j) (place n (i + 2) j) (place n (i + 3) j) a b d f ≡ inBlock n i (i + 4) c0 (j + 1) g t₀
-down-four n i c0 j g t₀ t a b d f h k e u v w x =
-    rw (u, v, w, x) (sym (column-four n i j g t h) ∙ ap (range (atEntry n g j) i (i + 4)) e ∙ sym (inBlock-column n i (i + 4) c0 j g t₀ k))
+    → put-four t (place n i j) (place n (i + 1) j) (place n (i + 2) j) (place n (i + 3) j) a b d f ≡ range (atEntry n g j) i (i + 4) t
+put-column n i j g t a b d f h u v w x = rw (u, v, w, x) (sym (column-four n i j g t h))

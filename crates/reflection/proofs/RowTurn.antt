@@ -10,28 +10,52 @@ use lib.Ieee.{Float}
 use Rattle.loops.specs.Constants.{minusTwo}
 use Rattle.loops.specs.Place.{place}
 use Rattle.loops.specs.Rounded.{_⊕_, _⊗_, _!_}
-use Rattle.loops.specs.Times.{range, range-one}
-use Rattle.matrix.specs.Entries.{atEntry, inBlock}
+use Rattle.loops.specs.Times.{range, range-one, range-join}
+use Rattle.matrix.specs.Entries.{Rule, atEntry, inBlock}
 use Rattle.matrix.specs.Product.{along}
 use Rattle.matrix.proofs.Blocks.{inBlock-frame, inBlock-same, inBlock-rows, inBlock-column}
 use Rattle.matrix.proofs.Sums.{bare-same}
 use Rattle.reflection.specs.Reflected.{mirroredRows}
-use Rattle.reflection.specs.Inner.{fourPut, fourAlong}
-use Rattle.reflection.proofs.FourRows.{down-four}
+use Rattle.reflection.specs.Inner.{fourPut, fourAlong, eightPut, eightAlong}
+use Rattle.reflection.proofs.FourRows.{put-column}
 
--- four rows
-pub four-turn : (a : List Float) (s : Float) (n i c0 j : ℕ) (t₀ t : List Float) → i + 4 ≤ n → t ≡ inBlock n i (i + 4) c0 (c0 + j) (mirroredRows a s n c0 t₀) t₀
-    → fourPut (s ⊗ minusTwo ⊗ (a ! j)) (fourAlong a n c0 t₀ i) s (place n i (c0 + j)) t ≡ inBlock n i (i + 4) c0 (c0 + (j + 1)) (mirroredRows a s n c0 t₀) t₀
+-- column j of four rows, put
+column-put : (a : List Float) (s : Float) (n i c0 j : ℕ) (t₀ t : List Float) → i + 4 ≤ n
+    → fourPut (s ⊗ minusTwo ⊗ (a ! j)) (fourAlong a n c0 t₀ i) s (place n i (c0 + j)) t ≡ range (atEntry n (mirroredRows a s n c0 t₀) (c0 + j)) i (i + 4) t
 unfolding mirroredRows fourAlong
-four-turn a s n i c0 j t₀ t h e =
+column-put a s n i c0 j t₀ t h =
     let k : c0 + j - c0 ≡ j = omega arith in
     rw (
       add-assoc ((c0 + j) * n) i 1,
       add-assoc ((c0 + j) * n) i 2,
       add-assoc ((c0 + j) * n) i 3,
-      ← add-assoc c0 j 1,
     )
-    (down-four n i c0 (c0 + j) (mirroredRows a s n c0 t₀) t₀ t _ _ _ _ h (omega arith) e (rw k) (rw k) (rw k) (rw k))
+    (put-column n i (c0 + j) (mirroredRows a s n c0 t₀) t _ _ _ _ h (rw k) (rw k) (rw k) (rw k))
+
+-- column j, behind those before it
+column-behind : (n r0 r1 c0 j : ℕ) (g : Rule) (t₀ t u : List Float) → u ≡ range (atEntry n g (c0 + j)) r0 r1 t → t ≡ inBlock n r0 r1 c0 (c0 + j) g t₀ → u ≡ inBlock n r0 r1 c0 (c0 + (j + 1)) g t₀
+column-behind n r0 r1 c0 j g t₀ t u d e =
+    rw (← add-assoc c0 j 1) (d ∙ ap (range (atEntry n g (c0 + j)) r0 r1) e ∙ sym (inBlock-column n r0 r1 c0 (c0 + j) g t₀ (omega arith)))
+
+-- four rows
+pub four-turn : (a : List Float) (s : Float) (n i c0 j : ℕ) (t₀ t : List Float) → i + 4 ≤ n → t ≡ inBlock n i (i + 4) c0 (c0 + j) (mirroredRows a s n c0 t₀) t₀
+    → fourPut (s ⊗ minusTwo ⊗ (a ! j)) (fourAlong a n c0 t₀ i) s (place n i (c0 + j)) t ≡ inBlock n i (i + 4) c0 (c0 + (j + 1)) (mirroredRows a s n c0 t₀) t₀
+four-turn a s n i c0 j t₀ t h e = column-behind n i (i + 4) c0 j (mirroredRows a s n c0 t₀) t₀ t _ (column-put a s n i c0 j t₀ t h) e
+
+-- eight
+pub eight-turn : (a : List Float) (s : Float) (n i c0 j : ℕ) (t₀ t : List Float) → i + 8 ≤ n → t ≡ inBlock n i (i + 8) c0 (c0 + j) (mirroredRows a s n c0 t₀) t₀
+    → eightPut (s ⊗ minusTwo ⊗ (a ! j)) (eightAlong a n c0 t₀ i) s (place n i (c0 + j)) t ≡ inBlock n i (i + 8) c0 (c0 + (j + 1)) (mirroredRows a s n c0 t₀) t₀
+eight-turn a s n i c0 j t₀ t h e =
+    let f = s ⊗ minusTwo ⊗ (a ! j) in
+    let turn = atEntry n (mirroredRows a s n c0 t₀) (c0 + j) in
+    let x : i + 4 + 4 ≡ i + 8 = omega arith in
+    column-behind n i (i + 8) c0 j (mirroredRows a s n c0 t₀) t₀ t _
+    (ap (λ p. fourPut f (fourAlong a n c0 t₀ (i + 4)) s p (fourPut f (fourAlong a n c0 t₀ i) s (place n i (c0 + j)) t)) (add-assoc ((c0 + j) * n) i 4)
+    ∙ column-put a s n (i + 4) c0 j t₀ (fourPut f (fourAlong a n c0 t₀ i) s (place n i (c0 + j)) t) (omega arith)
+    ∙ ap (range turn (i + 4) (i + 4 + 4)) (column-put a s n i c0 j t₀ t (omega arith))
+    ∙ range-join turn i (i + 4) 4 t (omega arith)
+    ∙ ap (λ b. range turn i b t) x)
+    e
 
 -- one row
 pub one-turn : (a : List Float) (s : Float) (n i c0 j : ℕ) (t₀ t : List Float) → t ≡ inBlock n i (i + 1) c0 (c0 + j) (mirroredRows a s n c0 t₀) t₀

@@ -7,6 +7,7 @@ use Rattle.loops.specs.Rounded.{_⊕_, _⊗_, _!_}
 use Rattle.loops.specs.Times.{times}
 use Rattle.matrix.specs.Product.{along}
 use Rattle.reflection.specs.declared.rows.Four.{Four}
+use Rattle.reflection.specs.declared.rows.Eight.{Eight}
 
 -- the numbers of t from o on, as many as a is long: f times that of a, plus s times what stands
 unfoldable pub axpyOf : Float → List Float → Float → ℕ → List Float → List Float
@@ -32,3 +33,16 @@ fourAlong a n c0 t i = four (along a n c0 t i) (along a n c0 t (i + 1)) (along a
 abbrev pub fourPut : Float → Four → Float → ℕ → List Float → List Float
 fourPut f w s p t =
     set (set (set (set t p (f ⊗ w .w0 ⊕ s ⊗ (t ! p))) (p + 1) (f ⊗ w .w1 ⊕ s ⊗ (t ! (p + 1)))) (p + 2) (f ⊗ w .w2 ⊕ s ⊗ (t ! (p + 2)))) (p + 3) (f ⊗ w .w3 ⊕ s ⊗ (t ! (p + 3)))
+
+-- the same for eight rows, as the upper four and the lower
+abbrev pub eightTimes : List Float → ℕ → Float → Eight
+eightTimes t p x = record { upper = fourTimes t p x; lower = fourTimes t (p + 4) x }
+
+abbrev pub eightPlus : List Float → ℕ → Float → Eight → Eight
+eightPlus t p x w = record { upper = fourPlus t p x (w .upper); lower = fourPlus t (p + 4) x (w .lower) }
+
+abbrev pub eightAlong : List Float → ℕ → ℕ → List Float → ℕ → Eight
+eightAlong a n c0 t i = record { upper = fourAlong a n c0 t i; lower = fourAlong a n c0 t (i + 4) }
+
+abbrev pub eightPut : Float → Eight → Float → ℕ → List Float → List Float
+eightPut f w s p t = fourPut f (w .lower) s (p + 4) (fourPut f (w .upper) s p t)

@@ -1,6 +1,6 @@
-// Rows reflected, by an axis of a length known at run time: four rows at a time, so that their sums stay
-// in registers, then the rows that are left one by one. Every entry's operations are in the Rust's
-// order, and no work vector is needed.
+// Rows reflected, by an axis of a length known at run time: eight rows at a time, so that their sums stay
+// in registers and each cache line is read once, then four where as many are left, then the rest one by one.
+// Every entry's operations are in the Rust's order, and no work vector is needed.
 ghost use mathlib.Core.Path.{_≡_};
 ghost use Prim.Native.Nat.{_+_, _*_, _<_, _≤_};
 ghost use lib.ListN.{length};
@@ -8,7 +8,7 @@ ghost use Rattle.loops.specs.Constants.{one};
 ghost use Rattle.matrix.specs.Entries.{inBlock};
 ghost use Rattle.matrix.specs.Product.{along};
 ghost use Rattle.reflection.specs.Reflected.{mirroredRows, reflectedRows};
-ghost use Rattle.reflection.specs.Inner.{fourTimes, fourPlus, fourPut, fourAlong};
+ghost use Rattle.reflection.specs.Inner.{fourTimes, fourPlus, fourPut, fourAlong, eightTimes, eightPlus, eightPut, eightAlong};
 
 // The sums of four rows.
 struct Four {
@@ -45,7 +45,7 @@ fn plus_four(t: &[f64], p: usize, x: f64, w: Four) -> Four
 }
 
 // The rows from i to i + 3, in the columns from c0 on, times a.
-fn sums(a: &[f64], t: &[f64], n: usize, i: usize, c0: usize) -> Four
+fn sums_of_four(a: &[f64], t: &[f64], n: usize, i: usize, c0: usize) -> Four
     requires { ⌜ (n ≤ 64) × (length (now t) ≡ n * n) × (i + 4 ≤ n) × (c0 + length (now a) ≤ n) × (0 < length (now a)) ⌝ }
     ensures { λ r. ⌜ r ≡ fourAlong (now (a .entry)) n c0 (now (t .entry)) i ⌝ }
 {
@@ -54,6 +54,50 @@ fn sums(a: &[f64], t: &[f64], n: usize, i: usize, c0: usize) -> Four
     for j in 1..a.len() {
         let p = crate::place::first_of(n, i, c0 + j, 4);
         w = plus_four(t, p, a[j], w);
+    }
+    w
+}
+
+// The sums of eight rows: of the upper four, and of the lower.
+struct Eight {
+    upper: Four,
+    lower: Four,
+}
+
+// The eight numbers of t from p on, times x.
+fn times_eight(t: &[f64], p: usize, x: f64) -> Eight
+    requires { ⌜ (p + 8 ≤ length (now t)) × (length (now t) ≤ 4096) ⌝ }
+    ensures { λ r. ⌜ r ≡ eightTimes (now (t .entry)) p x ⌝ }
+{
+    Eight {
+        upper: times_four(t, p, x),
+        lower: times_four(t, p + 4, x),
+    }
+}
+
+// The same, added to w.
+fn plus_eight(t: &[f64], p: usize, x: f64, w: Eight) -> Eight
+    requires { ⌜ (p + 8 ≤ length (now t)) × (length (now t) ≤ 4096) ⌝ }
+    ensures { λ r. ⌜ r ≡ eightPlus (now (t .entry)) p x w ⌝ }
+{
+    let upper = w.upper;
+    let lower = w.lower;
+    Eight {
+        upper: plus_four(t, p, x, upper),
+        lower: plus_four(t, p + 4, x, lower),
+    }
+}
+
+// The rows from i to i + 7, in the columns from c0 on, times a.
+fn sums_of_eight(a: &[f64], t: &[f64], n: usize, i: usize, c0: usize) -> Eight
+    requires { ⌜ (n ≤ 64) × (length (now t) ≡ n * n) × (i + 8 ≤ n) × (c0 + length (now a) ≤ n) × (0 < length (now a)) ⌝ }
+    ensures { λ r. ⌜ r ≡ eightAlong (now (a .entry)) n c0 (now (t .entry)) i ⌝ }
+{
+    let o = crate::place::first_of(n, i, c0, 8);
+    let mut w = times_eight(t, o, a[0]);
+    for j in 1..a.len() {
+        let p = crate::place::first_of(n, i, c0 + j, 8);
+        w = plus_eight(t, p, a[j], w);
     }
     w
 }
@@ -79,11 +123,36 @@ fn four_rows(a: &[f64], t: &mut [f64], n: usize, i: usize, c0: usize, sign: f64)
     ensures { λ _.
         ⌜ now (t .exit) ≡ inBlock n i (i + 4) c0 (c0 + length (now (a .entry))) (mirroredRows (now (a .entry)) sign n c0 (now (t .entry))) (now (t .entry)) ⌝ }
 {
-    let w = sums(a, t, n, i, c0);
+    let w = sums_of_four(a, t, n, i, c0);
     let m_two = sign * -2.0;
     for j in 0..a.len() {
         let p = crate::place::first_of(n, i, c0 + j, 4);
         put_four(t, p, m_two * a[j], w, sign);
+    }
+}
+
+// The eight numbers of t from p on, in the same way.
+fn put_eight(t: &mut [f64], p: usize, factor: f64, w: Eight, sign: f64)
+    requires { ⌜ (p + 8 ≤ length (now t)) × (length (now t) ≤ 4096) ⌝ }
+    ensures { λ _. ⌜ now (t .exit) ≡ eightPut factor w sign p (now (t .entry)) ⌝ }
+{
+    let upper = w.upper;
+    let lower = w.lower;
+    put_four(t, p, factor, upper, sign);
+    put_four(t, p + 4, factor, lower, sign);
+}
+
+// The rows from i to i + 7.
+fn eight_rows(a: &[f64], t: &mut [f64], n: usize, i: usize, c0: usize, sign: f64)
+    requires { ⌜ (n ≤ 64) × (length (now t) ≡ n * n) × (i + 8 ≤ n) × (c0 + length (now a) ≤ n) × (0 < length (now a)) ⌝ }
+    ensures { λ _.
+        ⌜ now (t .exit) ≡ inBlock n i (i + 8) c0 (c0 + length (now (a .entry))) (mirroredRows (now (a .entry)) sign n c0 (now (t .entry))) (now (t .entry)) ⌝ }
+{
+    let w = sums_of_eight(a, t, n, i, c0);
+    let m_two = sign * -2.0;
+    for j in 0..a.len() {
+        let p = crate::place::first_of(n, i, c0 + j, 8);
+        put_eight(t, p, m_two * a[j], w, sign);
     }
 }
 
@@ -115,6 +184,42 @@ fn one_row(a: &[f64], t: &mut [f64], n: usize, i: usize, c0: usize, sign: f64)
     }
 }
 
+// Eight rows at a time, as many times as `eights` says.
+fn rows_by_eight(a: &[f64], t: &mut [f64], n: usize, eights: usize, c0: usize, sign: f64)
+    requires { ⌜ (n ≤ 64) × (length (now t) ≡ n * n) × (eights * 8 ≤ n) × (c0 + length (now a) ≤ n) × (0 < length (now a)) ⌝ }
+    ensures { λ _.
+        ⌜ now (t .exit) ≡ inBlock n 0 (eights * 8) c0 (c0 + length (now (a .entry))) (mirroredRows (now (a .entry)) sign n c0 (now (t .entry))) (now (t .entry)) ⌝ }
+{
+    for b in 0..eights {
+        eight_rows(a, t, n, b * 8, c0, sign);
+    }
+}
+
+// The rows from `from` to below `to`, one by one.
+fn rows_by_one(a: &[f64], t: &mut [f64], n: usize, from: usize, to: usize, c0: usize, sign: f64)
+    requires { ⌜ (n ≤ 64) × (length (now t) ≡ n * n) × (from ≤ to) × (to ≤ n) × (c0 + length (now a) ≤ n) × (0 < length (now a)) ⌝ }
+    ensures { λ _.
+        ⌜ now (t .exit) ≡ inBlock n from to c0 (c0 + length (now (a .entry))) (mirroredRows (now (a .entry)) sign n c0 (now (t .entry))) (now (t .entry)) ⌝ }
+{
+    for i in from..to {
+        one_row(a, t, n, i, c0, sign);
+    }
+}
+
+// The same, four at once where as many are left.
+fn rows_left(a: &[f64], t: &mut [f64], n: usize, from: usize, to: usize, c0: usize, sign: f64)
+    requires { ⌜ (n ≤ 64) × (length (now t) ≡ n * n) × (from ≤ to) × (to ≤ n) × (c0 + length (now a) ≤ n) × (0 < length (now a)) ⌝ }
+    ensures { λ _.
+        ⌜ now (t .exit) ≡ inBlock n from to c0 (c0 + length (now (a .entry))) (mirroredRows (now (a .entry)) sign n c0 (now (t .entry))) (now (t .entry)) ⌝ }
+{
+    if to - from < 4 {
+        rows_by_one(a, t, n, from, to, c0, sign);
+        return;
+    }
+    four_rows(a, t, n, from, c0, sign);
+    rows_by_one(a, t, n, from + 4, to, c0, sign);
+}
+
 // The first `rows` rows of the matrix t of order n, in the columns from c0 on, as many as a is long.
 // Nothing is done where these do not lie in the matrix.
 pub fn reflect_rows_with_sign(a: &[f64], t: &mut [f64], n: usize, rows: usize, c0: usize, sign: f64)
@@ -126,13 +231,9 @@ pub fn reflect_rows_with_sign(a: &[f64], t: &mut [f64], n: usize, rows: usize, c
     if a.len() == 0 {
         return;
     }
-    let blocks = rows / 4;
-    for b in 0..blocks {
-        four_rows(a, t, n, b * 4, c0, sign);
-    }
-    for i in blocks * 4..rows {
-        one_row(a, t, n, i, c0, sign);
-    }
+    let eights = rows / 8;
+    rows_by_eight(a, t, n, eights, c0, sign);
+    rows_left(a, t, n, eights * 8, rows, c0, sign);
 }
 
 // The same without a sign, that is with the sign 1.

@@ -24,7 +24,7 @@ loop-holds c = (omega arith, omega arith, omega arith, rw add-zero (sym (inBlock
 loop-again : tie.Need-loop-again Inv-loop μ-loop
 loop-again c =
     let inv = c .before .before .before .before .before .before .before .loop .inv in
-    let sums = c .before .before .before .before .before .before .before .before .sums in (
+    let sums = c .before .before .before .before .before .before .before .before .sums-of-four in (
       inv .0,
       omega arith,
       omega arith,

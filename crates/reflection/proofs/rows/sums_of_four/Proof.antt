@@ -1,11 +1,11 @@
--- `reflection::rows::sums` meets its contract. Assumes nothing.
+-- `reflection::rows::sums_of_four` meets its contract. Assumes nothing.
 use mathlib.Core.Path.{_≡_, _∙_}
 use Prim.Native.Nat.{_-_, _≤_}
 use native.Mathlib.Omega.{arith}
 use lib.ListN.{length}
 use Rattle.reflection.proofs.FourRows.{four-to, four-one, four-more, four-done}
-use Rattle.reflection.proofs.rows.sums.Statement.{statement}
-use Rattle.reflection.proofs.rows.sums.Tie as tie
+use Rattle.reflection.proofs.rows.sums_of_four.Statement.{statement}
+use Rattle.reflection.proofs.rows.sums_of_four.Tie as tie
 
 abbrev Inv-loop : tie.InvT-loop
 Inv-loop a t n i c0 o w₀ j₀ j-end w j = (j-end ≡ length a) × (1 ≤ j) × (j ≤ j-end) × (w ≡ four-to j a n c0 t i)
@@ -24,8 +24,8 @@ loop-again c =
 returns : tie.Need-returns Inv-loop μ-loop
 returns c = c .before .loop .inv .3 ∙ four-done _ _ _ _ _ _ (omega arith)
 
-pub sums-spec : {M : Type 1} → statement M
-sums-spec = tie.close (tie.spec Inv-loop μ-loop
+pub sums-of-four-spec : {M : Type 1} → statement M
+sums-of-four-spec = tie.close (tie.spec Inv-loop μ-loop
     (λ c κs. omega arith) (λ c. omega arith) (λ c κs. omega arith)
     loop-holds
     (λ c. omega arith) (λ c κs. omega arith) (λ c. omega arith) (λ c. omega arith) (λ c κs. omega arith) (λ c. omega arith) (λ c. omega arith)
