@@ -1,6 +1,6 @@
 // Rows reflected, by an axis of a length known at run time: eight rows at a time, so that their sums stay
-// in registers and each cache line is read once, then four where as many are left, then the rest one by one.
-// Every entry's operations are in the Rust's order, and no work vector is needed.
+// in registers, then four where as many are left, then the rest one by one. Every entry's operations are in
+// the Rust's order, and no work vector is needed.
 ghost use mathlib.Core.Path.{_≡_};
 ghost use Prim.Native.Nat.{_+_, _*_, _<_, _≤_};
 ghost use lib.ListN.{length};
