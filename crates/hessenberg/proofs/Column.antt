@@ -13,11 +13,10 @@ use Rattle.loops.specs.Constants.{zero}
 use Rattle.loops.specs.Part.{onPart, part-length, onPart-length, onPart-before, onPart-within, onPart-after}
 use Rattle.loops.specs.Place.{place, column, Inside}
 use Rattle.loops.specs.Rounded.{_!_}
-use Rattle.loops.specs.Times.{range}
 use Rattle.scalar.specs.Sign.{modulusOf}
-use Rattle.matrix.specs.Entries.{Rule, atEntry, inBlock}
+use Rattle.matrix.specs.Entries.{inBlock}
 use Rattle.matrix.specs.Vectors.{filled}
-use Rattle.matrix.proofs.Blocks.{inBlock-is, inBlock-no-columns, inBlock-column}
+use Rattle.matrix.proofs.Blocks.{inBlock-is}
 use Rattle.matrix.proofs.Each.{filled-length, filled-at}
 use Rattle.hessenberg.specs.Unpacked.{ofH}
 
@@ -34,15 +33,6 @@ ofH-next n w i j x e = rw (lt-leb (j + 2) i (omega arith), eq-eqb i (j + 1) e)
 pub ofH-below : (n : ℕ) (w : List Float) (i j : ℕ) (x : Float) → j + 2 ≤ i → ofH n w i j x ≡ zero
 unfolding ofH
 ofH-below n w i j x h = rw (le-leb (j + 2) i h)
-
--- the block of the columns before column j, then column j: one column more
-pub column-next : (n r0 r1 c0 j : ℕ) (g : Rule) (t : List Float) → c0 ≤ j
-    → inBlock n r0 r1 j (j + 1) g (inBlock n r0 r1 c0 j g t) ≡ inBlock n r0 r1 c0 (j + 1) g t
-column-next n r0 r1 c0 j g t h =
-    let s = inBlock n r0 r1 c0 j g t in
-    inBlock-column n r0 r1 j j g s (omega arith)
-    ∙ ap (range (atEntry n g j) r0 r1) (inBlock-no-columns n r0 r1 j g s)
-    ∙ sym (inBlock-column n r0 r1 c0 j g t h)
 
 -- ---- what the code makes of the column
 

@@ -18,8 +18,11 @@ in-square n i j hi hj =
     let h : suc j * n ≤ n * n = mul-le-mul-right n hj in
     omega (arith, suc-mul j n)
 
+pub product-64 : (k n : ℕ) → k ≤ 64 → n ≤ 64 → k * n ≤ 4096
+product-64 k n h l = mul-le-mul h l
+
 pub square-64 : (n : ℕ) → n ≤ 64 → n * n ≤ 4096
-square-64 n h = mul-le-mul h h
+square-64 n h = product-64 n n h h
 
 -- all that an index of a matrix of order up to 64 asks
 pub record Placed (n i j : ℕ) : Type 0 where

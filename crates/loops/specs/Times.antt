@@ -1,7 +1,8 @@
 -- A counted loop as a function. `times f n a` is a after turns 0, 1, .., n - 1, where turn i takes the state x to f i x.
 -- `range f a b s` is `for i in a..b`: s after turns a, a + 1, .., b - 1, and s itself where b ≤ a.
 -- A loop's invariant says that the state is `times f i` (or `range f a i`) of the state at the start: `-none` begins it, `-more` keeps it,
--- `-done` ends it, and `-join` takes two portions for one. What a loop does to all it runs over is `-hold`; what it leaves alone, `-frame`; what one turn put somewhere, `-at`.
+-- `-done` ends it. What a loop does to all it runs over is `-hold`; what it leaves alone, `-frame`; what one turn put somewhere, `-at`. Two
+-- portions one after the other are `-portions`.
 use mathlib.Core.Path.{_≡_, refl, sym, ap, _∙_}
 use mathlib.Core.Logic.{_≢_}
 use mathlib.Core.List.{List}
@@ -112,12 +113,12 @@ pub range-both : {A B : Type 0} (R : A → B → Type 0) (f : ℕ → A → A) (
 unfolding range
 range-both R f g a b s u keep h = times-both R (λ k. f (a + k)) (λ k. g (a + k)) (b - a) s u (λ k. keep (a + k)) h
 
--- one portion, then the next
-pub range-join : {A : Type 0} (f : ℕ → A → A) (a b k : ℕ) (s : A) → a ≤ b → range f b (b + k) (range f a b s) ≡ range f a (b + k) s
-range-join f a b zero s h = rw add-zero (range-none f b (range f a b s))
-range-join f a b (suc k) s h =
+-- in two portions: what the first leaves, the second takes up
+pub range-portions : {A : Type 0} (f : ℕ → A → A) (a b k : ℕ) (s : A) → a ≤ b → range f b (b + k) (range f a b s) ≡ range f a (b + k) s
+range-portions f a b zero s h = rw add-zero (range-none f b (range f a b s))
+range-portions f a b (suc k) s h =
     let e : b + suc k ≡ b + k + 1 = omega arith in
-    rw e (range-more f b (b + k) (range f a b s) (omega arith) ∙ ap (f (b + k)) (range-join f a b k s h) ∙ sym (range-more f a (b + k) s (omega arith)))
+    rw e (range-more f b (b + k) (range f a b s) (omega arith) ∙ ap (f (b + k)) (range-portions f a b k s h) ∙ sym (range-more f a (b + k) s (omega arith)))
 
 -- ---- a few turns
 

@@ -134,6 +134,13 @@ pub inBlock-column : (n r0 r1 c0 j : ℕ) (g : Rule) (t : List Float) → c0 ≤
 unfolding inBlock
 inBlock-column n r0 r1 c0 j g t h = range-more _ _ _ _ h
 
+-- one column alone, and one column behind those before it
+pub inBlock-alone : (n r0 r1 j : ℕ) (g : Rule) (t : List Float) → inBlock n r0 r1 j (j + 1) g t ≡ range (atEntry n g j) r0 r1 t
+inBlock-alone n r0 r1 j g t = inBlock-column n r0 r1 j j g t (omega arith) ∙ ap (range (atEntry n g j) r0 r1) (inBlock-no-columns n r0 r1 j g t)
+
+pub inBlock-behind : (n r0 r1 c0 j : ℕ) (g : Rule) (t : List Float) → c0 ≤ j → inBlock n r0 r1 j (j + 1) g (inBlock n r0 r1 c0 j g t) ≡ inBlock n r0 r1 c0 (j + 1) g t
+inBlock-behind n r0 r1 c0 j g t h = inBlock-alone n r0 r1 j g (inBlock n r0 r1 c0 j g t) ∙ sym (inBlock-column n r0 r1 c0 j g t h)
+
 -- where the loop's test over the columns has failed
 pub inBlock-columns-done : (n r0 r1 c0 c1 j : ℕ) (g : Rule) (t : List Float) → c0 ≤ j → j ≤ max c0 c1 → c1 ≤ j → inBlock n r0 r1 c0 j g t ≡ inBlock n r0 r1 c0 c1 g t
 unfolding inBlock

@@ -93,3 +93,9 @@ filled-length x t = eachTo-length _ _ t
 pub filled-at : (x : Float) (t : List Float) (i : ℕ) → i < length t → filled x t ! i ≡ x
 unfolding filled
 filled-at x t i h = eachTo-at (length t) _ t i h (omega arith)
+
+-- it does not matter what is filled over
+pub filled-same : (x : Float) (s t : List Float) → length s ≡ length t → filled x s ≡ filled x t
+filled-same x s t e =
+    ext-getD nan (filled x s) (filled x t) (filled-length x s ∙ e ∙ sym (filled-length x t))
+    (λ i l. let h : i < length s = omega (arith, filled-length x s) in filled-at x s i h ∙ sym (filled-at x t i (omega arith)))

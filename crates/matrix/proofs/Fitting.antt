@@ -16,7 +16,8 @@ pub record Fits (n len r1 c1 : ℕ) : Type 0 where
   pub inRows : r1 ≤ n
   pub inCols : c1 ≤ n
 
-both : (a b : Bool) → a && b ≡ true → (a ≡ true) × (b ≡ true)
+-- two tests that hold together
+pub both : (a b : Bool) → a && b ≡ true → (a ≡ true) × (b ≡ true)
 both true b h = (refl, h)
 both false b h = absurd (false≢true h)
 

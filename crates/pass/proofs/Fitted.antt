@@ -2,16 +2,12 @@
 use Prim.Native.Nat.{ℕ, _+_, _*_, _<_, _≤_}
 use mathlib.Core.Bool.{Bool, true, false, not, false≢true}
 use mathlib.Core.Path.{_≡_, refl, sym, _∙_}
-use native.Mathlib.Nat.{mul-le-mul, mul-le-mul-right}
+use native.Mathlib.Nat.{mul-le-mul-right}
 use native.Mathlib.Decide.{decLt}
 use native.Mathlib.Omega.{arith}
 use Rattle.loops.specs.Place.{in-square}
 use Rattle.matrix.specs.Fits.{blockFits}
 use Rattle.matrix.proofs.Fitting.{Fits, fits, fitting}
-
--- no such place runs round
-pub product-64 : (e n : ℕ) → e ≤ 64 → n ≤ 64 → e * n ≤ 4096
-product-64 e n h k = mul-le-mul h k
 
 -- there is no such row
 absent : (n len e : ℕ) → (Fits n len (e + 1) (e + 1) → ⊥) → blockFits n len (e + 1) (e + 1) ≡ false

@@ -89,8 +89,8 @@ fn sweep2(t: &mut [f64], n: usize, start: usize, k: usize, norm: f64)
     put(t, n, k + 1, m, 0.0);
 }
 
-// Both sides of T by the axis a from row and column k on, its columns in the first `rows` rows. The columns right
-// of the three that the rows' reflection rewrites come last: the next step's axis does not wait for them.
+// Both sides of T by the axis a from row and column k on, its columns in the first `rows` rows. Columns k to k + 2
+// come first: `reflect_rows3`, and so the next step's axis, needs no others. Those right of them come last.
 fn both_sides3(a: Vector3, t: &mut [f64], n: usize, k: usize, rows: usize)
     requires { ⌜ (n ≤ 64) × (length (now t) ≡ n * n) × (k + 2 < n) × (rows ≤ n) ⌝ }
     ensures { λ _. ⌜ now (t .exit) ≡ reflectedRows (three a) one n rows k (reflected bare (three a) one n k k n (now (t .entry))) ⌝ }

@@ -1,18 +1,13 @@
 -- What a run answers, told of the state at which it stopped, and what its test of the arguments tells. Assumes nothing.
-use Prim.Native.Nat.{ℕ, _*_, _≤_, _<_}
-use mathlib.Core.Bool.{Bool, true, false, cond, not, _&&_, _||_, false≢true}
+use Prim.Native.Nat.{ℕ, _*_, _≤_}
+use mathlib.Core.Bool.{Bool, true, false, cond, not, _||_}
 use mathlib.Core.Logic.{_≢_}
-use mathlib.Core.Path.{_≡_, refl, sym, ap, _∙_}
-use mathlib.Core.List.{List}
-use native.Mathlib.Omega.{arith}
+use mathlib.Core.Path.{_≡_, sym, ap, _∙_}
 use borrow.Author.Tests.{eq-eqb, ne-eqb, leb-true, eqb-true}
 use lib.Dec.{eqb}
-use lib.ListN.{length}
-use lib.Seq.{ext-getD}
-use lib.Ieee.{Float, nan}
-use Rattle.matrix.specs.Vectors.{scaled, filled}
-use Rattle.matrix.proofs.Each.{filled-length, filled-at}
-use Rattle.matrix.proofs.Fitting.{Fits, fits}
+use lib.Ieee.{Float}
+use Rattle.matrix.specs.Vectors.{scaled}
+use Rattle.matrix.proofs.Fitting.{Fits, fits, both}
 use Rattle.schur.specs.declared.run.State.{State}
 use Rattle.schur.specs.declared.run.Ran.the-variants.{Ended, BudgetReached}
 use Rattle.pass.specs.Pair.{Pair, pair}
@@ -44,10 +39,6 @@ pub record RunFits (n tn wn : ℕ) : Type 0 where
   pub size : tn ≡ n * n
   pub room : wn ≡ 2 * n
 
-both : (a b : Bool) → a && b ≡ true → (a ≡ true) × (b ≡ true)
-both true b h = (refl, h)
-both false b h = absurd (false≢true h)
-
 pub run-fitting : (wanted : Bool) (n tn qn wn : ℕ) → runFits wanted n tn qn wn ≡ true → RunFits n tn wn
 unfolding runFits
 run-fitting wanted n tn qn wn h =
@@ -61,11 +52,3 @@ run-fitting wanted n tn qn wn h =
       size = f .size;
       room = eqb-true _ _ (d .1);
     }
-
--- ---- the workspace
-
--- it does not matter what is filled over
-pub filled-same : (x : Float) (s t : List Float) → length s ≡ length t → filled x s ≡ filled x t
-filled-same x s t e =
-    ext-getD nan (filled x s) (filled x t) (filled-length x s ∙ e ∙ sym (filled-length x t))
-    (λ i l. let h : i < length s = omega (arith, filled-length x s) in filled-at x s i h ∙ sym (filled-at x t i (omega arith)))

@@ -4,11 +4,11 @@ use Prim.Native.Nat.{_+_, _*_, _-_}
 use native.Mathlib.Omega.{arith}
 use borrow.Author.Tests.{eqb-true}
 use lib.ListN.{length}
+use Rattle.matrix.proofs.Blocks.{inBlock-behind}
 use Rattle.matrix.proofs.Fitting.{inside, outside, from-row-0}
 use Rattle.matrix.proofs.Walks.{Down, down-refused, down-begun, down-more, down-done}
 use Rattle.hessenberg.specs.Reduced.{workFits}
 use Rattle.hessenberg.specs.Unpacked.{ofH, unpackedH}
-use Rattle.hessenberg.proofs.Column.{column-next}
 use Rattle.hessenberg.proofs.Empty.{unpackedH-idle, unpackedH-empty}
 use Rattle.hessenberg.proofs.unpack_h.Statement.{statement}
 use Rattle.hessenberg.proofs.unpack_h.Tie as tie
@@ -38,7 +38,7 @@ loop-again : tie.Need-loop-again Inv-loop μ-loop
 loop-again c =
     let inv = c .before .before .before .before .before .loop .inv in
     let turn = c .before .before .unpack-column .ensures in
-    (down-more (inv .0) (omega arith) (rw (turn, inv .0 .done) (column-next _ _ _ _ _ _ _ (omega arith))), omega arith, omega arith)
+    (down-more (inv .0) (omega arith) (rw (turn, inv .0 .done) (inBlock-behind _ _ _ _ _ _ _ (omega arith))), omega arith, omega arith)
 
 returns-4 : tie.Need-returns-4 Inv-loop μ-loop
 unfolding unpackedH workFits

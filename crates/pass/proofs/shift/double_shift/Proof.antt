@@ -5,10 +5,11 @@ use mathlib.Core.Bool.{true}
 use native.Mathlib.Omega.{arith}
 use borrow.Author.Tests.{le-leb, lt-leb}
 use lib.ListN.{length}
+use Rattle.loops.specs.Place.{product-64}
 use Rattle.matrix.specs.Fits.{blockFits}
 use Rattle.matrix.proofs.Fitting.{Fits, within, outside, fitting, from-row-0, from-column-0}
 use Rattle.pass.specs.Pass.{passOf}
-use Rattle.pass.proofs.Fitted.{product-64, no-matrix, too-large, behind, present}
+use Rattle.pass.proofs.Fitted.{no-matrix, too-large, behind, present}
 use Rattle.pass.proofs.shift.double_shift.Statement.{statement}
 use Rattle.pass.proofs.shift.double_shift.Tie as tie
 

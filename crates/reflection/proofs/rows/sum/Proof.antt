@@ -2,7 +2,7 @@
 use mathlib.Core.Path.{refl, _∙_}
 use Prim.Native.Nat.{_-_}
 use native.Mathlib.Omega.{arith}
-use Rattle.reflection.proofs.FourRows.{along-to, along-one, along-more, along-done}
+use Rattle.reflection.proofs.RowSums.{along-to, along-one, along-more, along-done}
 use Rattle.reflection.proofs.RowLoops.{Summing, summing-begun, summing-more, summing-done}
 use Rattle.reflection.proofs.rows.sum.Statement.{statement}
 use Rattle.reflection.proofs.rows.sum.Tie as tie

@@ -2,7 +2,7 @@
 use mathlib.Core.Path.{refl, _∙_}
 use Prim.Native.Nat.{_-_}
 use native.Mathlib.Omega.{arith}
-use Rattle.reflection.proofs.FourRows.{eight-to, eight-one, eight-more, eight-done}
+use Rattle.reflection.proofs.RowSums.{eight-to, eight-one, eight-more, eight-done}
 use Rattle.reflection.proofs.RowLoops.{Summing, summing-begun, summing-more, summing-done}
 use Rattle.reflection.proofs.rows.sums_of_eight.Statement.{statement}
 use Rattle.reflection.proofs.rows.sums_of_eight.Tie as tie
