@@ -1,5 +1,6 @@
-//! Links the static libraries that `rt staticlib` writes.
+//! Links the static libraries that `rt staticlib` writes, and hands `ORACLE_SHIFT` on to the program.
 
+use std::env;
 use std::path::Path;
 use std::process::exit;
 
@@ -12,6 +13,9 @@ const LIBRARIES: [&str; 3] = ["door", "leaf_door", "run_door"];
 
 fn main() {
     println!("cargo:rustc-link-search=native={FOLDER}");
+    let shift = env::var("ORACLE_SHIFT").unwrap_or_else(|_| "0".to_string());
+    println!("cargo:rerun-if-env-changed=ORACLE_SHIFT");
+    println!("cargo:rustc-env=ORACLE_SHIFT={shift}");
     let mut missing = false;
     for name in LIBRARIES {
         let archive = Path::new(FOLDER).join(format!("lib{name}.a"));

@@ -6,6 +6,7 @@ mod kernels;
 mod ours;
 mod timing;
 
+use crate::options;
 use crate::random::Random;
 use inputs::{Item, Told};
 use kernels::{Kernel, KERNELS};
@@ -62,21 +63,18 @@ impl Options {
     fn read(arguments: &[String]) -> Result<Options, String> {
         let mut options = Options {
             count: 4000,
-            seed: 0x5eed,
+            seed: options::SEED,
             repeat: 1,
         };
-        for pair in arguments.chunks(2) {
-            let [name, value] = pair else {
-                return Err(format!("`{}` needs a value", pair[0]));
-            };
-            let bad = |_| format!("`{value}` is no value for `{name}`");
-            match name.as_str() {
-                "--count" => options.count = value.parse::<u16>().map_err(bad)? as usize * 1000,
-                "--seed" => options.seed = u64::from_str_radix(value, 16).map_err(bad)?,
-                "--repeat" => options.repeat = value.parse::<u16>().map_err(bad)? as usize,
-                _ => return Err(format!("no option `{name}`")),
+        options::each(arguments, |name, value| {
+            match name {
+                "--count" => options.count = options::count(value)? * 1000,
+                "--seed" => options.seed = options::seed(value)?,
+                "--repeat" => options.repeat = options::count(value)?,
+                _ => return Ok(false),
             }
-        }
+            Ok(true)
+        })?;
         Ok(options)
     }
 }

@@ -9,6 +9,7 @@ mod witnesses;
 
 use crate::door::run::schur;
 use crate::jobs;
+use crate::options;
 use crate::random::Random;
 use case::Case;
 use check::{check, Side};
@@ -97,22 +98,19 @@ impl Options {
         let mut options = Options {
             small: 500_000,
             large: 5000,
-            seed: 0x5eed,
+            seed: options::SEED,
             file: None,
         };
-        for pair in arguments.chunks(2) {
-            let [name, value] = pair else {
-                return Err(format!("`{}` needs a value", pair[0]));
-            };
-            let bad = |_| format!("`{value}` is no value for `{name}`");
-            match name.as_str() {
-                "--count" => options.small = value.parse::<u16>().map_err(bad)? as usize * 1000,
-                "--large" => options.large = value.parse::<u32>().map_err(bad)? as usize,
-                "--seed" => options.seed = u64::from_str_radix(value, 16).map_err(bad)?,
-                "--file" => options.file = Some(value.clone()),
-                _ => return Err(format!("no option `{name}`")),
+        options::each(arguments, |name, value| {
+            match name {
+                "--count" => options.small = options::count(value)? * 1000,
+                "--large" => options.large = options::count(value)?,
+                "--seed" => options.seed = options::seed(value)?,
+                "--file" => options.file = Some(value.to_string()),
+                _ => return Ok(false),
             }
-        }
+            Ok(true)
+        })?;
         Ok(options)
     }
 }

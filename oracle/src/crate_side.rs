@@ -203,7 +203,9 @@ mod tests {
             GivensRotation::identity().rotate(&mut matrix.rows_mut(3, 2));
         }));
         let mut large: DMatrix<f64> = DMatrix::from_element(65, 65, 1.0);
-        GivensRotation::new(3.0, 4.0).0.rotate(&mut large.rows_mut(0, 2));
+        GivensRotation::new(3.0, 4.0)
+            .0
+            .rotate(&mut large.rows_mut(0, 2));
         assert_ne!(large[(0, 0)], 1.0);
         // With the sign 0 the old entries are not read, and no +0 is added to -0.
         let mut matrix: DMatrix<f64> = DMatrix::from_column_slice(2, 1, &[1.0, 2.0]);

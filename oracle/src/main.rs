@@ -13,14 +13,25 @@ mod leaves;
 #[rustfmt::skip]
 mod model;
 mod numbers;
+mod options;
 mod random;
 mod root;
 mod scalar;
 mod speed;
 mod sums;
+mod times;
 mod versions;
 
+use std::arch::global_asm;
 use std::process::ExitCode;
+
+// So many bytes in front of our functions. Where they lie, to 16 bytes, is worth up to a third of a kernel's time,
+// and any change of this program moves them: so times are taken at several shifts (docs/SPEED.md).
+global_asm!(
+    ".section .text.shift, \"axR\", @progbits",
+    concat!(".skip ", env!("ORACLE_SHIFT")),
+    ".text"
+);
 
 /// Runs a command on its arguments. It answers the number of differences, or why it could not run.
 type Run = fn(&[String]) -> Result<usize, String>;

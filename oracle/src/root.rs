@@ -5,7 +5,7 @@ mod groups;
 mod timing;
 
 use crate::random::Random;
-use crate::{door, jobs};
+use crate::{door, jobs, options};
 use groups::GROUPS;
 use std::ops::Range;
 use std::time::Instant;
@@ -61,19 +61,16 @@ impl Options {
     fn read(arguments: &[String]) -> Result<Options, String> {
         let mut options = Options {
             count: 100_000_000,
-            seed: 0x5eed,
+            seed: options::SEED,
         };
-        for pair in arguments.chunks(2) {
-            let [name, value] = pair else {
-                return Err(format!("`{}` needs a value", pair[0]));
-            };
-            let bad = |_| format!("`{value}` is no value for `{name}`");
-            match name.as_str() {
-                "--count" => options.count = value.parse::<u32>().map_err(bad)? as u64 * 1_000_000,
-                "--seed" => options.seed = u64::from_str_radix(value, 16).map_err(bad)?,
-                _ => return Err(format!("no option `{name}`")),
+        options::each(arguments, |name, value| {
+            match name {
+                "--count" => options.count = options::count(value)? as u64 * 1_000_000,
+                "--seed" => options.seed = options::seed(value)?,
+                _ => return Ok(false),
             }
-        }
+            Ok(true)
+        })?;
         Ok(options)
     }
 }

@@ -9,7 +9,9 @@ use crate::compare::same;
 use crate::crate_side;
 use crate::door::run::{schur, Answer};
 use crate::numbers::normal;
+use crate::options;
 use crate::random::Random;
+use crate::times::{Ratios, Times};
 use nalgebra::{DMatrix, Schur};
 use std::hint::black_box;
 use std::time::Instant;
@@ -56,19 +58,16 @@ impl Options {
     fn read(arguments: &[String]) -> Result<Options, String> {
         let mut options = Options {
             repeat: 5,
-            seed: 0x5eed,
+            seed: options::SEED,
         };
-        for pair in arguments.chunks(2) {
-            let [name, value] = pair else {
-                return Err(format!("`{}` needs a value", pair[0]));
-            };
-            let bad = |_| format!("`{value}` is no value for `{name}`");
-            match name.as_str() {
-                "--repeat" => options.repeat = value.parse::<u16>().map_err(bad)? as usize,
-                "--seed" => options.seed = u64::from_str_radix(value, 16).map_err(bad)?,
-                _ => return Err(format!("no option `{name}`")),
+        options::each(arguments, |name, value| {
+            match name {
+                "--repeat" => options.repeat = options::count(value)?,
+                "--seed" => options.seed = options::seed(value)?,
+                _ => return Ok(false),
             }
-        }
+            Ok(true)
+        })?;
         Ok(options)
     }
 }
@@ -165,38 +164,21 @@ fn crates_without_q(items: &mut Items) {
     }
 }
 
-/// The microseconds of a run.
-#[derive(Clone, Copy)]
-struct Times {
-    ours: f64,
-    crates: f64,
-}
-
-impl Times {
-    fn least(self, other: Times) -> Times {
-        Times {
-            ours: self.ours.min(other.ours),
-            crates: self.crates.min(other.crates),
-        }
-    }
-}
-
 /// The times of every order with Q, and of every order without.
 fn table(items: &mut [Items]) -> Vec<Times> {
     let mut table = Vec::new();
     for (_, ours, crates) in WAYS {
         for items in items.iter_mut() {
-            // The two take turns, so that both see the machine's quiet moments.
-            let rounds = (0..ROUNDS).map(|_| Times {
+            table.push(Times::of_rounds(ROUNDS, || Times {
                 ours: time(ours, items),
                 crates: time(crates, items),
-            });
-            table.push(rounds.reduce(Times::least).expect("there are rounds"));
+            }));
         }
     }
     table
 }
 
+/// The microseconds of a run.
 fn time(side: Side, items: &mut Items) -> f64 {
     let start = Instant::now();
     side(black_box(&mut *items));
@@ -225,16 +207,9 @@ fn report(items: &[Items], tables: &[Vec<Times>]) {
 
 /// The least times, and the ratios of the repeats.
 fn report_line(times: &[Times]) {
-    let mut ratios: Vec<f64> = times.iter().map(|pair| pair.ours / pair.crates).collect();
-    ratios.sort_by(f64::total_cmp);
-    let last = ratios.len() - 1;
-    let least = times.iter().copied().reduce(Times::least).expect("a table");
+    let (least, ratios) = (Times::least(times.iter().copied()), Ratios::of(times));
     println!(
         " {:>10.2} {:>10.2} {:>8.2} {:>8.2} {:>8.2}",
-        least.ours,
-        least.crates,
-        ratios[0],
-        ratios[ratios.len() / 2],
-        ratios[last]
+        least.ours, least.crates, ratios.least, ratios.middle, ratios.largest
     );
 }

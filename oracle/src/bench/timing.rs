@@ -6,6 +6,7 @@
 use super::inputs::Item;
 use super::kernels::{Kernel, Side, KERNELS};
 use crate::random::Random;
+use crate::times::{Ratios, Times};
 use std::hint::black_box;
 use std::time::Instant;
 
@@ -19,22 +20,6 @@ const AIM_FROM: usize = 16;
 /// a shared machine others were disturbed.
 const ROUNDS: usize = 300;
 const ROUND_NS: f64 = 20_000.0;
-
-/// The ns of a call.
-#[derive(Clone, Copy)]
-struct Times {
-    ours: f64,
-    crates: f64,
-}
-
-impl Times {
-    fn least(self, other: Times) -> Times {
-        Times {
-            ours: self.ours.min(other.ours),
-            crates: self.crates.min(other.crates),
-        }
-    }
-}
 
 pub fn run(seed: u64, repeat: usize) {
     // The whole table again and again, not each line: so the repeats are some time apart.
@@ -55,23 +40,23 @@ pub fn run(seed: u64, repeat: usize) {
     let mut aims = Vec::new();
     for (line, (kernel, order)) in lines().enumerate() {
         let times: Vec<Times> = tables.iter().map(|table| table[line]).collect();
-        let mut ratios: Vec<f64> = times.iter().map(|pair| pair.ours / pair.crates).collect();
-        ratios.sort_by(f64::total_cmp);
-        let middle = ratios[repeat / 2];
-        if repeat > 1 {
-            ratios = vec![ratios[0], middle, ratios[repeat - 1]];
-        }
-        let ratios: Vec<String> = ratios.iter().map(|x| format!("{x:>8.2}")).collect();
-        let aim = (kernel.has_aim && order >= AIM_FROM).then_some(middle <= AIM);
+        let ratios = Ratios::of(&times);
+        let told = match repeat {
+            1 => format!("{:>8.2}", ratios.middle),
+            _ => format!(
+                "{:>8.2} {:>8.2} {:>8.2}",
+                ratios.least, ratios.middle, ratios.largest
+            ),
+        };
+        let aim = (kernel.has_aim && order >= AIM_FROM).then_some(ratios.middle <= AIM);
         aims.extend(aim);
 
         let name = if order == ORDERS[0] { kernel.name } else { "" };
-        let least = times.into_iter().reduce(Times::least).expect("a table");
+        let least = Times::least(times);
         println!(
-            "{name:14} {order:>6} {:>9.1} {:>9.1} {}{}",
+            "{name:14} {order:>6} {:>9.1} {:>9.1} {told}{}",
             least.ours,
             least.crates,
-            ratios.join(" "),
             aim.map_or("", |met| if met { "  met" } else { "  NOT MET" })
         );
     }
@@ -100,13 +85,10 @@ fn times(kernel: &Kernel, items: &mut [Item]) -> Times {
     time(kernel.crates, items, 20);
     let one = time(kernel.crates, items, 20) * items.len() as f64;
     let sweeps = (ROUND_NS / one).ceil() as usize;
-    // The two take turns, so that both see the machine's quiet moments.
-    let round = |_| Times {
+    Times::of_rounds(ROUNDS, || Times {
         ours: time(kernel.ours, items, sweeps),
         crates: time(kernel.crates, items, sweeps),
-    };
-    let rounds = (0..ROUNDS).map(round);
-    rounds.reduce(Times::least).expect("there are rounds")
+    })
 }
 
 /// The ns of a call in so many sweeps over the items.
