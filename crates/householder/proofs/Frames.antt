@@ -19,12 +19,13 @@ use Rattle.scalar.specs.Sign.{signumOf}
 use Rattle.matrix.specs.Sum.{lanes}
 use Rattle.matrix.specs.Fits.{blockFits}
 use Rattle.matrix.proofs.Fitting.{Fits, fits}
-use Rattle.matrix.proofs.Each.{eachTo-length}
+use Rattle.matrix.specs.Vectors.{copied}
+use Rattle.matrix.proofs.Copied.{copied-length}
 use Rattle.matrix.proofs.Kernels.{onEntries-length}
 use Rattle.reflection.specs.Reflected.{reflected, reflectedRows}
 use Rattle.reflection.proofs.Frames.{reflected-length, reflected-frame, reflectedRows-length, reflectedRows-frame}
 use Rattle.householder.specs.Axis.{axisOf}
-use Rattle.householder.specs.Cleared.{Cleared, belowRow, cleared, copied, bothSides, clearedHere, clearOf}
+use Rattle.householder.specs.Cleared.{Cleared, belowRow, cleared, bothSides, clearedHere, clearOf}
 use Rattle.householder.specs.Assembled.{identity, withAxis, assembled}
 use Rattle.householder.proofs.Ways.{axis-length}
 
@@ -81,10 +82,10 @@ module _ (n k : ℕ) (t : List Float) (f : Fits n (length t) (k + 2) (k + 2)) wh
       cond-hold (λ s. s ! place n i j ≡ t ! place n i j) (r .reflected) (bothSides n k (r .axis) (signumOf (r .norm)) made) made (λ _. bothSides-frame n k _ _ made i j h l ∙ made-frame i j h l m) (made-frame i j h l m)
 
   here-work : (w : List Float) → length (clearedHere n k t w .work) ≡ length w
-  unfolding clearedHere copied
+  unfolding clearedHere
   here-work w =
       let r = axisOf lanes (belowRow n k t) in
-      cond-hold (λ s. length s ≡ length w) (r .reflected) (copied (r .axis) w) w (λ _. eachTo-length _ _ w) refl
+      cond-hold (λ s. length s ≡ length w) (r .reflected) (copied (r .axis) w) w (λ _. copied-length _ w) refl
 
 -- what holds where nothing is done and where the column is cleared, holds
 either : (P : Cleared → Type 0) (n k : ℕ) (t w : List Float) → (Fits n (length t) (k + 2) (k + 2) → P (clearedHere n k t w)) → P (cleared nan t w) → P (clearOf n k t w)

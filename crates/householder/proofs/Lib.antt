@@ -3,4 +3,3 @@ pub mod Ways
 pub mod Frames
 mod Diagonal
 mod Empty
-mod Copied

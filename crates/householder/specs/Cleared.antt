@@ -7,10 +7,9 @@ use lib.ListN.{length}
 use lib.Ieee.{Float, nan}
 use Rattle.loops.specs.Place.{place}
 use Rattle.loops.specs.Part.{part, onPart}
-use Rattle.loops.specs.Rounded.{_!_}
 use Rattle.scalar.specs.Sign.{signumOf}
 use Rattle.matrix.specs.Sum.{lanes}
-use Rattle.matrix.specs.Vectors.{eachTo}
+use Rattle.matrix.specs.Vectors.{copied}
 use Rattle.matrix.specs.Fits.{blockFits}
 use Rattle.reflection.specs.Reflected.{reflected, reflectedRows}
 use Rattle.householder.specs.Axis.{axisOf}
@@ -27,10 +26,6 @@ pub record Cleared : Type 0 where
 
 abbrev pub cleared : Float → List Float → List Float → Cleared
 cleared x t w = record { norm = x; matrix = t; work = w }
-
--- a list written over the first numbers of another
-unfoldable pub copied : List Float → List Float → List Float
-copied c w = eachTo (length c) (λ i _. c ! i) w
 
 -- both sides by the axis a with the sign s: all rows first, then the columns right of column k, from row k + 1 on
 unfoldable pub bothSides : ℕ → ℕ → List Float → Float → List Float → List Float

@@ -11,12 +11,13 @@ use Rattle.loops.specs.Down.{down}
 use Rattle.loops.specs.Part.{onPart}
 use Rattle.scalar.specs.Sign.{signumOf, toExpOf}
 use Rattle.matrix.specs.Sum.{lanes, bare}
+use Rattle.matrix.specs.Vectors.{copied}
 use Rattle.matrix.specs.Known.{read, shown, opened}
 use Rattle.reflection.specs.Reflected.{mirroredColumns, reflected, mirroredRows, reflectedRows}
 use Rattle.reflection.specs.Reflected.{down as downColumn}
 use Rattle.householder.specs.Axis.{Told, signedNorm, factorOf, shifted, allZero, wayOf, inWay, axisOf}
 use Rattle.householder.specs.Axis.{Reflected, AllZero, TooSmall}
-use Rattle.householder.specs.Cleared.{Cleared, copied, bothSides, clearedHere, clearOf}
+use Rattle.householder.specs.Cleared.{Cleared, bothSides, clearedHere, clearOf}
 use Rattle.householder.specs.Assembled.{identity, withAxis, assembled}
 
 -- every definition that a case computes with

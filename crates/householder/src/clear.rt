@@ -2,17 +2,8 @@
 ghost use mathlib.Core.Path.{_≡_};
 ghost use lib.ListN.{length};
 ghost use Prim.Native.Nat.{_+_, _*_, _≤_};
-ghost use Rattle.householder.specs.Cleared.{belowRow, cleared, clearOf, copied, bothSides};
-
-// Writes c over the first numbers of w.
-fn copy_from(w: &mut [f64], c: &[f64])
-    requires { ⌜ length (now c) ≤ length (now w) ⌝ }
-    ensures { λ _. ⌜ now (w .exit) ≡ copied (now (c .entry)) (now (w .entry)) ⌝ }
-{
-    for i in 0..c.len() {
-        w[i] = c[i];
-    }
-}
+ghost use Rattle.matrix.specs.Vectors.{copied};
+ghost use Rattle.householder.specs.Cleared.{belowRow, cleared, clearOf, bothSides};
 
 // Both sides of the matrix t of order n by the axis that stands in column k below row k: all rows first,
 // then the columns right of column k. The axis is copied into `work` and used there, since the matrix
@@ -27,7 +18,7 @@ fn reflect_both_sides(t: &mut [f64], n: usize, k: usize, work: &mut [f64], sign:
     let a = k * n + next;
     let e = k * n + n;
     let m = e - a;
-    copy_from(work, &t[a..e]);
+    matrix::copy_from(work, &t[a..e]);
     reflection::reflect_rows_with_sign(&work[0..m], t, n, n, next, sign);
     reflection::reflect_with_sign(&work[0..m], t, n, next, next, n, sign);
 }

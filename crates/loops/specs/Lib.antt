@@ -1,5 +1,6 @@
 -- The vocabulary of the port's definitions, and the laws about it that proofs need.
--- Read `Rounded` and `Constants` for arithmetic, `Place` and `Part` for a matrix in a list, `Times`, `Down` and `Until` for loops; `Tests` serves proofs alone.
+-- Read `Rounded` and `Constants` for arithmetic, `Place` and `Part` for a matrix in a list, `Table` for a list told place by place, `Times`,
+-- `Down`, `Until` and `First` for loops; `One` for contracts as equations. `Tests` serves proofs alone.
 pub mod Rounded
 pub mod Constants
 pub mod Place
@@ -7,4 +8,7 @@ pub mod Part
 pub mod Times
 pub mod Down
 pub mod Until
+pub mod First
+pub mod Table
+pub mod One
 pub mod Tests

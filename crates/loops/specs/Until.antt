@@ -2,7 +2,7 @@
 -- A loop's invariant says that what is left to do, `until done f left` of the state as it is, equals the whole.
 use mathlib.Core.Path.{_≡_, refl, sym, ap, _∙_}
 use mathlib.Core.Bool.{Bool, true, false, false≢true}
-use Prim.Native.Nat.{ℕ, zero, suc, _+_, _-_, _<_}
+use Prim.Native.Nat.{ℕ, zero, suc, _+_, _-_, _<_, _≤_}
 use native.Mathlib.Nat.{zero-add, suc-add}
 use native.Mathlib.Omega.{arith}
 
@@ -64,3 +64,13 @@ until-portions done f (suc m) n a = rw suc-add (go (done a) refl (until-portions
     go : (b : Bool) → done a ≡ b → until done f (m + n) (f a) ≡ until done f n (until done f m (f a)) → until done f (suc (m + n)) a ≡ until done f n (until done f (suc m) a)
     go true h later = until-stop done f (suc (m + n)) a h ∙ sym (ap (until done f n) (until-stop done f (suc m) a h) ∙ until-stop done f n a h)
     go false h later = step done f (m + n) a h ∙ later ∙ sym (ap (until done f n) (step done f m a h))
+
+-- what grows by 1 at most in each turn grows by n at most
+pub until-count : {A : Type 0} (size : A → ℕ) (done : A → Bool) (f : A → A) (n : ℕ) (a : A) → ((x : A) → size (f x) ≤ size x + 1) → size (until done f n a) ≤ size a + n
+unfolding until
+until-count size done f zero a grow = omega arith
+until-count size done f (suc n) a grow = go (done a) (until-count size done f n (f a) grow) (grow a)
+  where
+    go : (b : Bool) → size (until done f n (f a)) ≤ size (f a) + n → size (f a) ≤ size a + 1 → size (elim b [ true ↦ a | false ↦ until done f n (f a) ]) ≤ size a + suc n
+    go true h k = omega arith
+    go false h k = omega arith

@@ -1,9 +1,9 @@
--- Dot product, norm, scaling, filling and largest magnitude of a list of numbers: a column, a part of one, or a whole matrix column by column
+-- Dot product, norm, scaling, filling, copying and largest magnitude of a list of numbers: a column, a part of one, or a whole matrix column by column
 -- (docs/SUMS.md, 2.1 to 2.7).
 use Prim.Native.Nat.{ℕ}
 use mathlib.Core.Bool.{cond}
 use mathlib.Core.List.{List, [], _∷_}
-use lib.Dec.{eqb}
+use lib.Dec.{eqb, leb}
 use lib.ListN.{length, set}
 use lib.Ieee.{Float, nan, le}
 use Rattle.loops.specs.Constants.{zero}
@@ -48,6 +48,10 @@ each f t = eachTo (length t) (λ _ e. f e) t
 -- each number is x
 unfoldable pub filled : Float → List Float → List Float
 filled x t = each (λ _. x) t
+
+-- c copied to the front of t; nothing is done where it is the longer one
+unfoldable pub copied : List Float → List Float → List Float
+copied c t = cond (leb (length c) (length t)) (eachTo (length c) (λ i _. c ! i) t) t
 
 -- each number times x; each divided by x, one division for each; each divided by the norm
 unfoldable pub scaled : Float → List Float → List Float

@@ -12,6 +12,7 @@ pub use blas::dot;
 pub use block::block_fits;
 pub use block::entry;
 pub use block::put;
+pub use edition::copy_from;
 pub use edition::fill;
 pub use min_max::camax;
 pub use norms::norm;

@@ -3,7 +3,7 @@ ghost use mathlib.Core.Path.{_≡_};
 ghost use lib.ListN.{length};
 ghost use Prim.Native.Nat.{_+_, _*_, _<_, _≤_};
 ghost use Rattle.pass.specs.Pair.{pair};
-ghost use Rattle.pass.specs.Block.{blockAt, eigvalsOf, basisOf, turnedBy, splitAt, columnsIn, orderTwo};
+ghost use Rattle.pass.specs.Block.{blockAt, discriminant, eigvalsOf, basisOf, turnedBy, splitAt, columnsIn, orderTwo};
 use crate::place::get;
 use crate::place::put;
 use givens::Rotation;
@@ -46,12 +46,18 @@ fn block_at(t: &[f64], n: usize, k: usize) -> Block
     }
 }
 
+// Not by trace and determinant: so it is never below 0 for a symmetric block.
+pub fn discriminant(m: Block) -> f64
+    ensures { λ r. ⌜ r ≡ discriminant m ⌝ }
+{
+    let val = (m.h00 - m.h11) * 0.5;
+    m.h10 * m.h01 + val * val
+}
+
 pub fn compute_2x2_eigvals(m: Block) -> Eigvals
     ensures { λ r. ⌜ r ≡ eigvalsOf m ⌝ }
 {
-    // Not by trace and determinant: so it is never below 0 for a symmetric block.
-    let val = (m.h00 - m.h11) * 0.5;
-    let discr = m.h10 * m.h01 + val * val;
+    let discr = discriminant(m);
     if discr >= 0.0 {
         let root = scalar::sqrt(discr);
         let half_tra = (m.h00 + m.h11) * 0.5;

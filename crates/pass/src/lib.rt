@@ -12,5 +12,6 @@ pub use block::Values;
 pub use block::compute_2x2_basis;
 pub use block::compute_2x2_eigvals;
 pub use block::decompose_2x2;
+pub use block::discriminant;
 pub use block::split;
 pub use shift::double_shift;

@@ -4,8 +4,9 @@ use Prim.Native.Nat.{_+_, _-_}
 use native.Mathlib.Omega.{arith}
 use Rattle.loops.specs.Place.{place, Column, column}
 use Rattle.loops.specs.Part.{part, part-length}
-use Rattle.householder.specs.Cleared.{belowRow, copied, bothSides}
-use Rattle.householder.proofs.Copied.{copied-to}
+use Rattle.householder.specs.Cleared.{belowRow, bothSides}
+use Rattle.matrix.specs.Vectors.{copied}
+use Rattle.matrix.proofs.Copied.{copied-to}
 use Rattle.householder.proofs.clear.reflect_both_sides.Statement.{statement}
 use Rattle.householder.proofs.clear.reflect_both_sides.Tie as tie
 

@@ -1,0 +1,65 @@
+-- Where all checks of the arguments have passed: what each of them tells, and that the run's own test holds then. Assumes nothing.
+use Prim.Native.Nat.{ℕ, _*_, _≤_}
+use mathlib.Core.Bool.{Bool, true, false, not, _&&_, _||_}
+use mathlib.Core.Path.{_≡_, sym, _∙_}
+use mathlib.Core.List.{List}
+use native.Mathlib.Omega.{arith}
+use borrow.Author.Tests.{eqb-true, eqb-false, ltb-false, leb-true, le-leb, eq-eqb, not-false}
+use lib.Dec.{eqb, leb}
+use lib.Ieee.{Float}
+use Rattle.matrix.proofs.Fitting.{both, fitting}
+use Rattle.refusal.specs.declared.refusal.Checked.the-variants.{Passed}
+use Rattle.refusal.specs.declared.search.Search.the-variants.{Nowhere}
+use Rattle.refusal.specs.Search.{firstNotFinite}
+use Rattle.refusal.proofs.Checking.{next-passed, refuse-passed, refuseAt-passed}
+use Rattle.schur.specs.Run.{runFits}
+use Rattle.decomposition.specs.Checks.{toleranceFits, budgetFits, lengthsFit, argumentChecks}
+
+pub record Right (lengths : Bool) (n : ℕ) (tolerance : Float) (budget : ℕ) (m : List Float) : Type 0 where
+  pub some : 1 ≤ n
+  pub order : n ≤ 64
+  pub lent : lengths ≡ true
+  pub near : toleranceFits tolerance ≡ true
+  pub bound : budgetFits budget ≡ true
+  pub entries : firstNotFinite n m ≡ Nowhere
+
+pub all-right : (lengths : Bool) (n : ℕ) (tolerance : Float) (budget : ℕ) (m : List Float) → argumentChecks lengths n tolerance budget m ≡ Passed → Right lengths n tolerance budget m
+unfolding argumentChecks
+all-right lengths n tolerance budget m h =
+    let a = next-passed _ _ h in
+    let b = next-passed _ _ (a .1) in
+    let c = next-passed _ _ (b .1) in
+    let d = next-passed _ _ (c .1) in
+    let e = next-passed _ _ (d .1) in
+    let none = eqb-false n 0 (refuse-passed _ _ (a .0)) in
+    record {
+      some = omega arith;
+      order = ltb-false 64 n (refuse-passed _ _ (b .0));
+      lent = not-false lengths (refuse-passed _ _ (c .0));
+      near = not-false (toleranceFits tolerance) (refuse-passed _ _ (d .0));
+      bound = not-false (budgetFits budget) (refuse-passed _ _ (e .0));
+      entries = refuseAt-passed _ _ (e .1);
+    }
+
+-- a budget that has passed is at least 1
+pub some-budget : (b : ℕ) → budgetFits b ≡ true → 1 ≤ b
+unfolding budgetFits
+some-budget b h = leb-true 1 b (both (leb 1 b) (leb b 1000000) h .0)
+
+-- the lengths as the run tests them, and that of the matrix
+pub record Lent (wanted : Bool) (n mn tn qn wn : ℕ) : Type 0 where
+  pub alike : mn ≡ tn
+  pub square : tn ≡ n * n
+  pub fits : runFits wanted n tn qn wn ≡ true
+
+pub all-lent : (wanted : Bool) (n mn tn qn wn : ℕ) → 1 ≤ n → n ≤ 64 → lengthsFit wanted n mn tn qn wn ≡ true → Lent wanted n mn tn qn wn
+unfolding lengthsFit runFits
+all-lent wanted n mn tn qn wn some small h =
+    let a = both (eqb mn (n * n)) (eqb tn (n * n) && ((not wanted || eqb qn (n * n)) && eqb wn (2 * n))) h in
+    let b = both (eqb tn (n * n)) ((not wanted || eqb qn (n * n)) && eqb wn (2 * n)) (a .1) in
+    let square = eqb-true tn (n * n) (b .0) in
+    record {
+      alike = eqb-true mn (n * n) (a .0) ∙ sym square;
+      square = square;
+      fits = rw (le-leb 1 n some, fitting n tn n n small square (omega arith) (omega arith)) (b .1);
+    }

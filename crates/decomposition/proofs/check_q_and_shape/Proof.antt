@@ -1,0 +1,14 @@
+-- `decomposition::check_q_and_shape` meets its contract. Assumes nothing.
+use borrow.Author.Needs.{needs}
+use borrow.Author.Tests.{not-true, not-false}
+use Rattle.refusal.specs.Refusal.{_next_}
+use Rattle.decomposition.proofs.check_q_and_shape.Statement.{statement}
+use Rattle.decomposition.proofs.check_q_and_shape.Tie as tie
+
+pub check-q-and-shape-spec : {M : Type 1} → statement M
+unfolding _next_
+check-q-and-shape-spec = tie.close (tie.spec (λ c κs. search needs)
+    (λ c. rw (not-true (c .before .before .before .before .args .wanted) (c .before .if1 .taken)) (c .check-shape .ensures))
+    (λ c κs. search needs) (λ c. search needs) (λ c. search needs) (λ c κs. search needs)
+    (λ c. rw (not-false (c .before .before .before .before .before .before .before .args .wanted) (c .before .before .before .before .if1 .left), ← c .before .before .before .check-result .ensures, c .before .r .given .1))
+    (λ c. rw (not-false (c .before .before .before .before .before .before .before .args .wanted) (c .before .before .before .before .if1 .left), ← c .before .before .before .check-result .ensures, c .before .enum-told .given .1) (c .check-shape2 .ensures)))

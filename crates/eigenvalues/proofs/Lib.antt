@@ -1,0 +1,4 @@
+mod Answering
+mod Checking
+mod Diagonal
+mod Filling

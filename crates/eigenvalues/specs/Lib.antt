@@ -1,0 +1,5 @@
+-- Eigenvalues. `Blocks`: the blocks on T's diagonal and what each answers; `Readers`: the real and the complex reader of a given T;
+-- `Known`: worked cases.
+pub mod Blocks
+pub mod Readers
+pub mod Known

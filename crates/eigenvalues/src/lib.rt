@@ -1,0 +1,8 @@
+// Eigenvalues: the readers of a given T.
+mod block;
+mod readers;
+
+pub use block::BlockAnswer;
+pub use block::Parts;
+pub use readers::complex_eigenvalues;
+pub use readers::eigenvalues;

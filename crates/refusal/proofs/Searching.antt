@@ -1,0 +1,63 @@
+-- A search column by column, as a loop makes it: what is left to search at column j is the whole. Assumes nothing.
+use Prim.Native.Nat.{ℕ, _+_, _<_, _≤_}
+use mathlib.Core.Bool.{Bool, true, false, cond}
+use mathlib.Core.Path.{_≡_, refl, sym, ap, _∙_}
+use native.Mathlib.Decide.{decLt}
+use native.Mathlib.Omega.{arith}
+use borrow.Author.Tests.{lt-ltb, le-ltb}
+use lib.Dec.{ltb}
+use Rattle.loops.specs.First.{firstFrom, first-here, first-on, first-none, first-same}
+use Rattle.refusal.specs.declared.search.Search.{Search}
+use Rattle.refusal.specs.declared.search.Search.the-variants.{At, Nowhere}
+use Rattle.refusal.specs.Refusal.{at}
+use Rattle.refusal.specs.Search.{firstRow, firstCol, firstPlace}
+
+-- whether column j has such a row
+abbrev pub inColumn : (ℕ → ℕ → Bool) → ℕ → ℕ → Bool
+inColumn test n j = ltb (firstRow test n j) n
+
+-- the columns before j have none
+pub record Searched (test : ℕ → ℕ → Bool) (n j : ℕ) : Type 0 where
+  pub upto : j ≤ n
+  pub left : firstFrom (inColumn test n) n j ≡ firstCol test n
+
+pub searched-none : (test : ℕ → ℕ → Bool) (n : ℕ) → Searched test n 0
+unfolding firstCol
+searched-none test n = record { upto = omega arith; left = refl }
+
+pub searched-more : {test : ℕ → ℕ → Bool} {n j : ℕ} → Searched test n j → j < n → n ≤ firstRow test n j → Searched test n (j + 1)
+searched-more {test} {n} {j} s l h = record { upto = omega arith; left = sym (first-on (inColumn test n) n j l (le-ltb _ _ h)) ∙ s .left }
+
+-- what the column found makes of the search
+by : (test : ℕ → ℕ → Bool) (n j : ℕ) (b : Bool) → j ≡ firstCol test n → ltb j n ≡ b → cond b (At (at (firstRow test n j) j)) Nowhere ≡ firstPlace test n
+unfolding firstPlace
+by test n j b e h = ap (λ d. cond d (At (at (firstRow test n j) j)) Nowhere) (sym h) ∙ ap (λ k. cond (ltb k n) (At (at (firstRow test n k) k)) Nowhere) e
+
+pub searched-here : {test : ℕ → ℕ → Bool} {n i j : ℕ} → Searched test n j → j < n → i ≡ firstRow test n j → i < n → At (at i j) ≡ firstPlace test n
+searched-here {test} {n} {i} {j} s l e h =
+    let row : firstRow test n j < n = omega arith in
+    ap (λ k. At (at k j)) e ∙ by test n j true (sym (first-here (inColumn test n) n j (lt-ltb _ _ row)) ∙ s .left) (lt-ltb _ _ l)
+
+pub searched-done : {test : ℕ → ℕ → Bool} {n j : ℕ} → Searched test n j → n ≤ j → Nowhere ≡ firstPlace test n
+searched-done {test} {n} {j} s l = by test n j false (sym (first-none (inColumn test n) n j l) ∙ s .left) (le-ltb _ _ l)
+
+-- two tests that say the same of every place of the matrix find the same
+pub firstRow-same : (test other : ℕ → ℕ → Bool) (n j : ℕ) → ((i : ℕ) → i < n → test i j ≡ other i j) → firstRow test n j ≡ firstRow other n j
+unfolding firstRow
+firstRow-same test other n j same = first-same _ _ n 0 (omega arith) same
+
+pub firstCol-same : (test other : ℕ → ℕ → Bool) (n : ℕ) → ((i j : ℕ) → i < n → j < n → test i j ≡ other i j) → firstCol test n ≡ firstCol other n
+unfolding firstCol
+firstCol-same test other n same = first-same _ _ n 0 (omega arith) (λ j l. ap (λ k. ltb k n) (firstRow-same test other n j (λ i h. same i j h l)))
+
+pub firstPlace-same : (test other : ℕ → ℕ → Bool) (n : ℕ) → ((i j : ℕ) → i < n → j < n → test i j ≡ other i j) → firstPlace test n ≡ firstPlace other n
+firstPlace-same test other n same = go (decLt (firstCol test n) n)
+  where
+    go : Dec (firstCol test n < n) → firstPlace test n ≡ firstPlace other n
+    go (yes l) =
+        sym (by test n (firstCol test n) true refl (lt-ltb _ _ l))
+        ∙ ap (λ i. At (at i (firstCol test n))) (firstRow-same test other n (firstCol test n) (λ i h. same i (firstCol test n) h l))
+        ∙ by other n (firstCol test n) true (firstCol-same test other n same) (lt-ltb _ _ l)
+    go (no l) =
+        let past : ltb (firstCol test n) n ≡ false = le-ltb (firstCol test n) n (omega arith) in
+        sym (by test n (firstCol test n) false refl past) ∙ by other n (firstCol test n) false (firstCol-same test other n same) past

@@ -1,0 +1,5 @@
+-- Laws that other crates may cite. `Listing`: what stands in a list of floats or bytes; `Finite`: which patterns are finite; `Round`: what was written is read back.
+mod Putting
+pub mod Listing
+pub mod Finite
+pub mod Round
