@@ -1,19 +1,25 @@
 -- Where all checks of the arguments have passed: what each of them tells, and that the run's own test holds then. Assumes nothing.
 use Prim.Native.Nat.{ℕ, _*_, _≤_}
 use mathlib.Core.Bool.{Bool, true, false, not, _&&_, _||_}
-use mathlib.Core.Path.{_≡_, sym, _∙_}
+use mathlib.Core.Path.{_≡_, refl, sym, _∙_}
 use mathlib.Core.List.{List}
 use native.Mathlib.Omega.{arith}
-use borrow.Author.Tests.{eqb-true, eqb-false, ltb-false, leb-true, le-leb, eq-eqb, not-false}
+use borrow.Author.Tests.{eqb-true, eqb-false, ltb-false, leb-true, le-leb, ne-eqb, le-ltb, not-false}
 use lib.Dec.{eqb, leb}
+use lib.ListN.{length}
 use lib.Ieee.{Float}
+use Rattle.loops.specs.Constants.{zero}
+use Rattle.matrix.specs.Vectors.{filled}
 use Rattle.matrix.proofs.Fitting.{both, fitting}
 use Rattle.refusal.specs.declared.refusal.Checked.the-variants.{Passed}
 use Rattle.refusal.specs.declared.search.Search.the-variants.{Nowhere}
+use Rattle.refusal.specs.Refusal.{refuse, refuseAt, _next_}
 use Rattle.refusal.specs.Search.{firstNotFinite}
 use Rattle.refusal.proofs.Checking.{next-passed, refuse-passed, refuseAt-passed}
-use Rattle.schur.specs.Run.{runFits}
+use Rattle.pass.specs.Pair.{Pair, pair}
+use Rattle.schur.specs.Run.{Left, runFits, ranOf}
 use Rattle.decomposition.specs.Checks.{toleranceFits, budgetFits, lengthsFit, argumentChecks}
+use Rattle.decomposition.specs.Decomposition.{begun, judged, decompositionOf}
 
 pub record Right (lengths : Bool) (n : ℕ) (tolerance : Float) (budget : ℕ) (m : List Float) : Type 0 where
   pub some : 1 ≤ n
@@ -63,3 +69,21 @@ all-lent wanted n mn tn qn wn some small h =
       square = square;
       fits = rw (le-leb 1 n some, fitting n tn n n small square (omega arith) (omega arith)) (b .1);
     }
+
+-- and the other way
+pub right-passed : {lengths : Bool} {n : ℕ} {tolerance : Float} {budget : ℕ} {m : List Float} → Right lengths n tolerance budget m → argumentChecks lengths n tolerance budget m ≡ Passed
+unfolding argumentChecks refuse refuseAt _next_
+right-passed {n = n} r =
+    let some = r .some in
+    rw (ne-eqb n 0 (λ e. omega arith), le-ltb 64 n (r .order), r .lent, r .near, r .bound, r .entries)
+
+-- then the outcome is what is said of the run
+pub passed-judged : (wanted : Bool) (n : ℕ) (tolerance : Float) (budget : ℕ) (m : List Float) (p : Pair) (w : List Float)
+    → Right (lengthsFit wanted n (length m) (length (p .t)) (length (p .q)) (length w)) n tolerance budget m
+    → decompositionOf wanted n tolerance budget m p w ≡ judged wanted n (ranOf wanted n tolerance budget (pair m (p .q)) w) w
+unfolding decompositionOf begun
+passed-judged wanted n tolerance budget m p w r = rw (right-passed r)
+
+pub judged-work : (wanted : Bool) (n : ℕ) (l : Left) (w : List Float) → judged wanted n l w .work ≡ filled zero w
+unfolding judged
+judged-work wanted n l w = refl

@@ -24,7 +24,7 @@ pub enum Decomposed {
 }
 
 // From 0 to below 1: also -0, and not NaN.
-fn tolerance_fits(x: f64) -> bool
+pub fn tolerance_fits(x: f64) -> bool
     ensures { λ r. ⌜ r ≡ toleranceFits x ⌝ }
 {
     if x >= 0.0 {
@@ -33,7 +33,7 @@ fn tolerance_fits(x: f64) -> bool
     false
 }
 
-fn budget_fits(b: u64) -> bool
+pub fn budget_fits(b: u64) -> bool
     ensures { λ r. ⌜ r ≡ budgetFits b ⌝ }
 {
     if b == 0 {

@@ -2,3 +2,4 @@ mod Answering
 mod Checking
 mod Diagonal
 mod Filling
+mod Plainly

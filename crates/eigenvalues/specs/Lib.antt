@@ -1,5 +1,6 @@
--- Eigenvalues. `Blocks`: the blocks on T's diagonal and what each answers; `Readers`: the real and the complex reader of a given T;
+-- Eigenvalues. `Blocks`: the blocks on T's diagonal and what each answers; `Readers`: the real and the complex reader of a given T; `Plain`: the plain entry;
 -- `Known`: worked cases.
 pub mod Blocks
 pub mod Readers
+pub mod Plain
 pub mod Known

@@ -32,7 +32,7 @@ pub(crate) fn is_paired(t: &[f64], n: usize, k: usize) -> bool
 }
 
 // That block.
-fn block_at(t: &[f64], n: usize, k: usize) -> Block
+pub(crate) fn block_at(t: &[f64], n: usize, k: usize) -> Block
     requires { ⌜ (n ≤ 64) × (length (now t) ≡ n * n) × (k + 1 < n) ⌝ }
     ensures { λ r. ⌜ r ≡ blockAt n k (now (t .entry)) ⌝ }
 {

@@ -53,7 +53,7 @@ fn readable(t: &[f64], n: usize, lists: bool) -> Checked
 }
 
 // Whether some block of two stands.
-fn any_paired(t: &[f64], n: usize) -> bool
+pub(crate) fn any_paired(t: &[f64], n: usize) -> bool
     requires { ⌜ (n ≤ 64) × (length (now t) ≡ n * n) ⌝ }
     ensures { λ r. ⌜ r ≡ anyPaired n (now (t .entry)) ⌝ }
 {
@@ -82,7 +82,7 @@ fn real_checks(t: &[f64], n: usize, lists: bool) -> Checked
 }
 
 // The diagonal, bit for bit.
-fn do_eigenvalues(t: &[f64], n: usize, values: &mut [f64])
+pub(crate) fn do_eigenvalues(t: &[f64], n: usize, values: &mut [f64])
     requires { ⌜ (n ≤ 64) × (length (now t) ≡ n * n) × (length (now values) ≡ n) ⌝ }
     ensures { λ _. ⌜ now (values .exit) ≡ diagonal n (now (t .entry)) ⌝ }
 {

@@ -1,0 +1,92 @@
+-- What each function of the door answers, and the bytes that it leaves: the library's definitions on the floats whose patterns are lent. Lengths are those
+-- of the bytes. A refusal before the run leaves every lent byte as it was; what is written is the pattern of a float, 7FF8000000000000 for NaN.
+use Prim.Native.Nat.{ℕ, _*_}
+use mathlib.Core.Bool.{Bool, cond, not, _&&_, _||_}
+use mathlib.Core.List.{List}
+use lib.Dec.{eqb}
+use lib.ListN.{length}
+use lib.Ieee.{Float, binary64, ofBits}
+use Rattle.loops.specs.Constants.{zero}
+use Rattle.loops.specs.Table.{table}
+use Rattle.pass.specs.Pair.{pair}
+use Rattle.schur.specs.Run.{ranOf}
+use Rattle.refusal.specs.declared.refusal.Checked.{Checked}
+use Rattle.refusal.specs.declared.refusal.Checked.the-variants.{Passed, Refused}
+use Rattle.refusal.specs.Refusal.{ifPassed}
+use Rattle.decomposition.specs.Checks.{argumentChecks}
+use Rattle.decomposition.specs.Decomposition.{Outcome, judged}
+use Rattle.eigenvalues.specs.Blocks.{eigenvalueAt}
+use Rattle.eigenvalues.specs.Readers.{realChecks, diagonal, complexChecks, Read}
+use Rattle.eigenvalues.specs.Plain.{plainChecks, plainRead}
+use Rattle.words.specs.Floats.{floatsOf, bytesOf}
+use Rattle.door.specs.Answer.{refusalNumber, checkedNumber, decomposedNumber}
+
+-- n numbers, all +0: what the door itself lends the library for Q and for the workspace
+unfoldable pub zeros : ℕ → List Float
+zeros k = table k (λ _. zero)
+
+-- whether a slice holds k patterns
+abbrev pub holds : ℕ → List ℕ → Bool
+holds k b = eqb (length b) (8 * k)
+
+-- ---- the decomposition
+
+pub record Matrices : Type 0 where
+  pub answer : ℕ
+  pub t : List ℕ
+  pub q : List ℕ
+
+abbrev pub matrices : ℕ → List ℕ → List ℕ → Matrices
+matrices answer t q = record { answer = answer; t = t; q = q }
+
+-- T, and Q if it is wanted
+unfoldable pub writtenMatrices : Bool → Outcome → List ℕ → Matrices
+writtenMatrices wanted o q = matrices (decomposedNumber (o .answer)) (bytesOf (o .pair .t)) (cond wanted (bytesOf (o .pair .q)) q)
+
+unfoldable pub decomposedFrom : Checked → Matrices → List ℕ → List ℕ → Matrices
+decomposedFrom Passed written t q = written
+decomposedFrom (Refused r) written t q = matrices (refusalNumber r) t q
+
+unfoldable pub decomposeBytes : ℕ → List ℕ → ℕ → ℕ → Bool → List ℕ → List ℕ → Matrices
+decomposeBytes n m tolerance budget wanted t q =
+    let lengths = holds (n * n) m && (holds (n * n) t && (not wanted || holds (n * n) q)) in
+    let eps = ofBits binary64 tolerance in
+    let run = ranOf wanted n eps budget (pair (floatsOf m) (zeros (n * n))) (zeros (2 * n)) in
+    decomposedFrom (argumentChecks lengths n eps budget (floatsOf m)) (writtenMatrices wanted (judged wanted n run (zeros (2 * n))) q) t q
+
+-- ---- the readers
+
+pub record Listed : Type 0 where
+  pub answer : ℕ
+  pub values : List ℕ
+
+abbrev pub listed : ℕ → List ℕ → Listed
+listed answer values = record { answer = answer; values = values }
+
+unfoldable pub realBytes : ℕ → List ℕ → List ℕ → Listed
+realBytes n t values =
+    let c = realChecks (holds (n * n) t && holds n values) n (floatsOf t) in
+    listed (checkedNumber c) (ifPassed c (bytesOf (diagonal n (floatsOf t))) values)
+
+pub record ComplexListed : Type 0 where
+  pub answer : ℕ
+  pub re : List ℕ
+  pub im : List ℕ
+
+abbrev pub complexListed : ℕ → List ℕ → List ℕ → ComplexListed
+complexListed answer re im = record { answer = answer; re = re; im = im }
+
+unfoldable pub complexBytes : ℕ → List ℕ → List ℕ → List ℕ → ComplexListed
+complexBytes n t re im =
+    let c = complexChecks (holds (n * n) t && (holds n re && holds n im)) n (floatsOf t) in
+    let part = λ (f : ℕ → Float) (old : List ℕ). ifPassed c (bytesOf (table n f)) old in
+    complexListed (checkedNumber c) (part (λ k. eigenvalueAt n (floatsOf t) k .re) re) (part (λ k. eigenvalueAt n (floatsOf t) k .im) im)
+
+-- ---- the plain entry
+
+unfoldable pub plainFrom : Checked → Read → List ℕ → Listed
+plainFrom Passed r values = listed (checkedNumber (r .answer)) (ifPassed (r .answer) (bytesOf (r .values)) values)
+plainFrom (Refused r) _ values = listed (refusalNumber r) values
+
+unfoldable pub plainBytes : ℕ → List ℕ → List ℕ → Listed
+plainBytes n m values = plainFrom (plainChecks (holds (n * n) m && holds n values) n (floatsOf m)) (plainRead n (floatsOf m) (zeros (2 * n))) values
