@@ -1,23 +1,32 @@
-//! Command `compare`: the whole run against the crate's, bit for bit, on families of matrices, on
-//! matrices kept in a file, and on calls whose arguments do not fit.
+//! Command `compare`: the door against the judge, who has the crate's bits: all four entries, on families
+//! of matrices, on matrices kept in a file, on T's made for the readers, and on calls with faults.
 
 mod case;
 mod check;
 mod families;
-mod unfit;
+mod faults;
+#[cfg(test)]
+mod model_side;
+mod reached;
+mod shapes;
+mod side;
+mod trial;
 mod witnesses;
 
-use crate::door::run::schur;
+use crate::call::{Call, Entry};
 use crate::jobs;
+use crate::judge::Judge;
 use crate::options;
 use crate::random::Random;
-use case::Case;
-use check::{check, Side};
-use families::FAMILIES;
+use check::check;
+use faults::{Bases, Plan};
+use reached::Reached;
+use side::{Side, DOOR};
 use std::ops::RangeInclusive;
 use std::time::Instant;
 
-pub use check::same;
+pub use case::Case;
+pub use families::FAMILIES;
 
 /// Each family is cut into this many parts, which threads take one by one. The matrices of a part
 /// depend on its number and the seed, never on the thread.
@@ -43,39 +52,39 @@ fn run_file(file: &str) -> Result<usize, String> {
     let text = std::fs::read_to_string(file).map_err(|why| format!("{file}: {why}"))?;
     let cases = witnesses::read(&text).map_err(|why| format!("{file}: {why}"))?;
     head();
-    let tally = of_cases(schur, &cases);
+    let tally = of_cases(&DOOR, &cases);
     tally.print(file);
     Ok(tally.mismatches)
 }
 
 fn run_all(options: &Options) -> usize {
     let start = Instant::now();
-    let tallies = of_families(schur, options);
+    let tallies = of_families(&DOOR, options);
     head();
     for (family, tally) in FAMILIES.iter().zip(&tallies) {
         tally.print(family.name);
     }
-    let kept = of_cases(schur, &witnesses::cases());
+    let kept = of_cases(&DOOR, &witnesses::cases());
     kept.print("witnesses");
+    let made = of_shapes(&DOOR, options);
+    made.print_calls("T's made for the readers");
+    let faulty = of_faults(&DOOR, options);
+    faulty.print_calls("calls with faults, none, one or two");
 
-    let calls = options.small / 50;
-    let unfit = unfit::refuse(schur, calls, &mut Random::stream(options.seed, JOBS as u64));
+    let matrices = tallies.into_iter().chain([kept]).reduce(Tally::and);
+    let matrices = matrices.expect("there are families");
+    let (number, large) = (matrices.tried, matrices.large);
+    let all = matrices.and(made).and(faulty);
+    println!();
+    all.reached.print();
+    let missing = all.reached.missing();
+    for (entry, number) in &missing {
+        println!("no call of the {} came to {number}", entry.name());
+    }
+    let mismatches = all.mismatches + missing.len();
     println!(
-        "{calls} calls that do not fit, {} answered otherwise or touched something",
-        unfit.len()
-    );
-    unfit
-        .iter()
-        .take(SHOWN)
-        .for_each(|line| println!("    {line}"));
-
-    let all = tallies.into_iter().chain([kept]).reduce(Tally::and);
-    let all = all.expect("there are families");
-    let mismatches = all.mismatches + unfit.len();
-    println!(
-        "{} matrices, {} of them of orders {} to {}; {mismatches} mismatches, seed {:016x}, {:.1} seconds",
-        all.matrices,
-        all.large,
+        "{} calls, on {number} matrices and more, {large} of them of orders {} to {}; {mismatches} mismatches, seed {:016x}, {:.1} seconds",
+        all.reached.calls(),
         LARGE.start(),
         LARGE.end(),
         options.seed,
@@ -113,48 +122,98 @@ impl Options {
         })?;
         Ok(options)
     }
+
+    /// T's made for the readers, in all.
+    fn shapes(&self) -> usize {
+        self.small / 5
+    }
+
+    /// Calls of a plan, at least two.
+    fn calls(&self, plans: usize) -> usize {
+        (self.small * 2 / 5).div_ceil(plans).max(2)
+    }
+
+    /// The stream behind those of the families with this number.
+    fn stream(&self, number: usize) -> Random {
+        Random::stream(self.seed, (JOBS + number) as u64)
+    }
 }
 
-/// What a family, or a part of it, came to.
+/// What a line of the table, or a part of it, came to.
 #[derive(Default)]
 struct Tally {
-    matrices: usize,
+    /// Matrices, T's, or calls with faults.
+    tried: usize,
     large: usize,
     accepted: usize,
+    budget: usize,
+    reached: Reached,
     mismatches: usize,
     shown: Vec<Mismatch>,
 }
 
 struct Mismatch {
-    order: usize,
+    /// Bytes of the matrix.
+    size: usize,
     text: String,
 }
 
 impl Tally {
-    fn add(&mut self, side: Side, case: &Case, lent: &mut Random) {
+    /// A matrix counts as one mismatch, whatever is wrong on it.
+    fn add(&mut self, side: &Side, case: &Case, lent: &mut Random) {
         let checked = check(side, case, lent);
-        self.matrices += 1;
+        self.tried += 1;
         self.large += LARGE.contains(&case.order) as usize;
-        self.accepted += checked.accepted as usize;
+        self.accepted += (checked.number == 0) as usize;
+        self.budget += (checked.number == 7) as usize;
+        self.reached = std::mem::take(&mut self.reached).and(&checked.reached);
         if let Some(what) = checked.wrong {
-            self.mismatches += 1;
-            let text = format!(
-                "    order {}, tolerance {:e}, budget {}: {what}\n    {}",
-                case.order,
-                case.tolerance,
-                case.budget,
-                case.line()
-            );
-            let order = case.order;
-            self.shown.push(Mismatch { order, text });
-            self.keep_smallest();
+            let size = 8 * case.entries.len();
+            self.miss(size, format!("    {what}\n    {}", case.line()));
         }
     }
 
+    /// One call; `meant` is the number that it was made for, if it was made for one.
+    fn add_call(
+        &mut self,
+        side: &Side,
+        judge: &mut Judge,
+        call: &Call,
+        meant: Option<u8>,
+        lent: &mut Random,
+    ) {
+        let left = trial::make(side, judge, call, lent);
+        self.reached.count(call.entry, left.ruling.answer);
+        let number = left.ruling.answer.number();
+        let otherwise = meant.filter(|meant| *meant != number);
+        let otherwise =
+            otherwise.map(|meant| format!("{}: the judge has {number} for {meant}", call.told()));
+        let wrong = left.wrong.or(otherwise);
+        if let Some(what) = wrong {
+            let words = call.input.chunks(8).map(|eight| {
+                let digits = eight.iter().rev();
+                digits.map(|byte| format!("{byte:02x}")).collect::<String>()
+            });
+            let words: Vec<String> = words.collect();
+            self.miss(
+                call.input.len(),
+                format!("    {what}\n    {}", words.join(" ")),
+            );
+        }
+    }
+
+    fn miss(&mut self, size: usize, text: String) {
+        self.mismatches += 1;
+        self.shown.push(Mismatch { size, text });
+        self.keep_smallest();
+    }
+
     fn and(mut self, other: Tally) -> Tally {
-        self.matrices += other.matrices;
+        self.tried += other.tried;
         self.large += other.large;
         self.accepted += other.accepted;
+        self.budget += other.budget;
+        self.reached = self.reached.and(&other.reached);
         self.mismatches += other.mismatches;
         self.shown.extend(other.shown);
         self.keep_smallest();
@@ -163,18 +222,33 @@ impl Tally {
 
     /// Of the mismatches those of least order are shown, and of these the first.
     fn keep_smallest(&mut self) {
-        self.shown.sort_by_key(|mismatch| mismatch.order);
+        self.shown.sort_by_key(|mismatch| mismatch.size);
         self.shown.truncate(SHOWN);
     }
 
     fn print(&self, name: &str) {
         println!(
-            "{name:20} {:>9} {:>9} {:>9} {:>11}",
-            self.matrices,
+            "{name:20} {:>9} {:>9} {:>9} {:>9} {:>9} {:>11}",
+            self.tried,
             self.accepted,
-            self.matrices - self.accepted,
+            self.budget,
+            self.tried - self.accepted - self.budget,
+            self.reached.calls(),
             self.mismatches
         );
+        self.print_shown();
+    }
+
+    fn print_calls(&self, name: &str) {
+        println!(
+            "{name:60} {:>9} {:>11}",
+            self.reached.calls(),
+            self.mismatches
+        );
+        self.print_shown();
+    }
+
+    fn print_shown(&self) {
         for mismatch in &self.shown {
             println!("{}", mismatch.text);
         }
@@ -183,13 +257,13 @@ impl Tally {
 
 fn head() {
     println!(
-        "{:20} {:>9} {:>9} {:>9} {:>11}",
-        "family", "matrices", "accepted", "budget", "mismatches"
+        "{:20} {:>9} {:>9} {:>9} {:>9} {:>9} {:>11}",
+        "family", "matrices", "accepted", "budget", "8 or 9", "calls", "mismatches"
     );
 }
 
 /// Tries every family; a tally for each.
-fn of_families(side: Side, options: &Options) -> Vec<Tally> {
+fn of_families(side: &Side, options: &Options) -> Vec<Tally> {
     let parts = jobs::on_all_cores(JOBS, |job| part(side, options, job));
     let mut tallies: Vec<Tally> = FAMILIES.iter().map(|_| Tally::default()).collect();
     for (job, part) in parts.into_iter().enumerate() {
@@ -199,7 +273,7 @@ fn of_families(side: Side, options: &Options) -> Vec<Tally> {
     tallies
 }
 
-fn part(side: Side, options: &Options, job: usize) -> Tally {
+fn part(side: &Side, options: &Options, job: usize) -> Tally {
     let family = &FAMILIES[job / PARTS];
     // What stands in lent memory has a stream of its own: a check that ends early takes less of it,
     // and the next matrix must not depend on that.
@@ -215,7 +289,7 @@ fn part(side: Side, options: &Options, job: usize) -> Tally {
     tally
 }
 
-fn of_cases(side: Side, cases: &[Case]) -> Tally {
+fn of_cases(side: &Side, cases: &[Case]) -> Tally {
     let mut lent = Random::stream(0, 0);
     let mut tally = Tally::default();
     for case in cases {
@@ -224,163 +298,50 @@ fn of_cases(side: Side, cases: &[Case]) -> Tally {
     tally
 }
 
-#[cfg(test)]
-mod tests {
-    use super::*;
-    use crate::crate_side;
-    use crate::door::run::Answer;
-    use crate::model::{self, Run};
-
-    /// The plain model behind our function's arguments: a side that is right without the library.
-    fn model(
-        t: &mut [f64],
-        q: &mut [f64],
-        n: usize,
-        wanted: usize,
-        eps: f64,
-        budget: u64,
-        work: &mut [f64],
-    ) -> Answer {
-        work.fill(0.0);
-        match model::schur(t, n, eps, budget, wanted != 0) {
-            Run::Done {
-                t: right,
-                q: found,
-                passes,
-            } => {
-                t.copy_from_slice(&right);
-                if wanted != 0 {
-                    q.copy_from_slice(&found);
-                }
-                Answer::Passes(passes)
+/// Both readers on T's that are made block by block; a quarter of them is damaged.
+fn of_shapes(side: &Side, options: &Options) -> Tally {
+    let parts = jobs::on_all_cores(PARTS, |job| {
+        let mut random = options.stream(job);
+        let mut tally = Tally::default();
+        for _ in 0..options.shapes().div_ceil(PARTS) {
+            let order = 1 + random.below(12) as usize;
+            let mut t = shapes::draw(&mut random, order);
+            if families::one_in(&mut random, 4) {
+                shapes::damage(&mut random, order, &mut t);
             }
-            Run::Budget => Answer::Budget,
-        }
-    }
-
-    fn mismatches(side: Side) -> usize {
-        let options = Options {
-            small: 3000,
-            large: 0,
-            seed: 1,
-            file: None,
-        };
-        let tallies = of_families(side, &options);
-        tallies.iter().map(|tally| tally.mismatches).sum()
-    }
-
-    #[test]
-    fn the_model_is_right() {
-        assert_eq!(mismatches(model), 0);
-        let kept = of_cases(model, &witnesses::cases());
-        assert_eq!(kept.mismatches, 0);
-        assert!(kept.accepted > 0 && kept.accepted < kept.matrices);
-    }
-
-    /// Each promise is looked at: a side that breaks one is found out.
-    #[test]
-    fn wrong_sides_are_found() {
-        // Counts the pass that ends the run.
-        let counts_more: Side =
-            |t, q, n, wanted, eps, budget, work| match model(t, q, n, wanted, eps, budget, work) {
-                Answer::Passes(passes) => Answer::Passes(passes + 1),
-                other => other,
-            };
-        // Accepts when the last window closes on the last pass.
-        let accepts: Side = |t, q, n, wanted, eps, budget, work| match model(
-            t,
-            q,
-            n,
-            wanted,
-            eps,
-            budget + 1,
-            work,
-        ) {
-            Answer::Passes(passes) if passes > budget => Answer::Budget,
-            other => other,
-        };
-        let leaves_work: Side = |t, q, n, wanted, eps, budget, work| {
-            let answer = model(t, q, n, wanted, eps, budget, work);
-            *work.last_mut().unwrap() = -0.0;
-            answer
-        };
-        let writes_q: Side = |t, q, n, wanted, eps, budget, work| {
-            let answer = model(t, q, n, wanted, eps, budget, work);
-            if let (0, Some(first)) = (wanted, q.first_mut()) {
-                *first = 1.0;
-            }
-            answer
-        };
-        let refuses_all: Side = |_, _, _, _, _, _, work| {
-            work.fill(0.0);
-            Answer::Budget
-        };
-        let no_minus_zero: Side = |t, q, n, wanted, eps, budget, work| {
-            let answer = model(t, q, n, wanted, eps, budget, work);
-            t.iter_mut().for_each(|x| *x += 0.0);
-            answer
-        };
-        for side in [
-            counts_more,
-            accepts,
-            leaves_work,
-            writes_q,
-            refuses_all,
-            no_minus_zero,
-        ] {
-            assert!(mismatches(side) > 30, "{}", mismatches(side));
-        }
-    }
-
-    /// That a count is held in by two runs says the same as the search for it.
-    #[test]
-    fn the_pinned_count_is_that_of_a_search() {
-        let mut random = Random::stream(1, 0);
-        let mut ended = 0;
-        for number in 0..2000 {
-            let family = &FAMILIES[number % FAMILIES.len()];
-            let case = Case::draw(&mut random, family, SMALL);
-            let Case {
-                order,
-                entries,
-                tolerance,
-                budget,
-            } = &case;
-            let search = crate_side::passes(*order, entries, *tolerance, *budget as usize);
-            let checked = check(model, &case, &mut random);
-            assert_eq!(checked.wrong, None);
-            assert_eq!(checked.accepted, search.is_some());
-            if let Some(passes) = search {
-                ended += 1;
-                let mut t = entries.clone();
-                let mut work = vec![1.0; 2 * order];
-                let answer = model(&mut t, &mut [], *order, 0, *tolerance, *budget, &mut work);
-                assert_eq!(answer, Answer::Passes(passes as u64));
+            for entry in [Entry::Real, Entry::Complex] {
+                let call = Call::new(entry, order, &t);
+                tally.add_call(side, &mut Judge::default(), &call, None, &mut random);
             }
         }
-        assert!(ended > 1000);
-    }
-
-    /// What is odd about a run comes up by itself.
-    #[test]
-    fn odd_outcomes_come_up() {
-        let mut random = Random::stream(1, 0);
-        let mut seen = [0; 5];
-        for number in 0..20_000 {
-            let case = Case::draw(&mut random, &FAMILIES[number % FAMILIES.len()], SMALL);
-            let n = case.order;
-            match model::schur(&case.entries, n, case.tolerance, case.budget, false) {
-                Run::Done { t, passes, .. } => {
-                    let below = |c: usize| &t[(c + 2).min(n) + c * n..n + c * n];
-                    let bulge = (0..n).any(|column| below(column).iter().any(|&x| x != 0.0));
-                    seen[0] += t.iter().any(|x| !x.is_finite()) as usize;
-                    seen[1] += t.iter().any(|x| x.to_bits() == 1 << 63) as usize;
-                    seen[2] += bulge as usize;
-                    seen[3] += (n > 2 && passes == 0) as usize;
-                }
-                Run::Budget => seen[4] += (case.budget > 100) as usize,
-            }
-        }
-        assert!(seen.iter().all(|&count| count > 50), "{seen:?}");
-    }
+        tally
+    });
+    parts
+        .into_iter()
+        .reduce(Tally::and)
+        .expect("there are parts")
 }
+
+fn of_faults(side: &Side, options: &Options) -> Tally {
+    let bases = Bases::gather(&mut options.stream(PARTS));
+    let plans = Plan::all();
+    let calls = options.calls(plans.len());
+    let parts = jobs::on_all_cores(plans.len(), |job| {
+        let plan = &plans[job];
+        let mut random = options.stream(PARTS + 1 + job);
+        let mut judge = Judge::default();
+        let mut tally = Tally::default();
+        for _ in 0..if plan.long() { 2 } else { calls } {
+            let call = plan.draw(&bases, &mut random);
+            tally.add_call(side, &mut judge, &call, Some(plan.number()), &mut random);
+        }
+        tally
+    });
+    parts
+        .into_iter()
+        .reduce(Tally::and)
+        .expect("there are plans")
+}
+
+#[cfg(test)]
+mod tests;

@@ -2,7 +2,7 @@
 //!
 //! Matrices are lists of n * n entries, column by column.
 
-use nalgebra::{DMatrix, Schur};
+use nalgebra::{DMatrix, Dyn, Schur};
 
 /// T and Q of a matrix, or `None` where the counted passes reach the budget. A budget of 0 is none
 /// at all: the crate then goes on for as long as it takes.
@@ -15,6 +15,55 @@ pub fn schur(
     let matrix = DMatrix::from_column_slice(order, order, entries);
     let (q, t) = Schur::try_new(matrix, tolerance, budget)?.unpack();
     Some((t.as_slice().to_vec(), q.as_slice().to_vec()))
+}
+
+/// A run that ended, with the crate's own readers.
+pub struct Run {
+    pub t: Vec<f64>,
+    pub q: Vec<f64>,
+    schur: Schur<f64, Dyn>,
+}
+
+/// As `schur`, for what comes after T and Q.
+pub fn run(order: usize, entries: &[f64], tolerance: f64, budget: usize) -> Option<Run> {
+    let matrix = DMatrix::from_column_slice(order, order, entries);
+    let schur = Schur::try_new(matrix, tolerance, budget)?;
+    let (q, t) = schur.clone().unpack();
+    Some(Run {
+        t: t.as_slice().to_vec(),
+        q: q.as_slice().to_vec(),
+        schur,
+    })
+}
+
+impl Run {
+    /// The real reader.
+    pub fn real(&self) -> Option<Vec<f64>> {
+        Some(self.schur.eigenvalues()?.as_slice().to_vec())
+    }
+
+    /// The complex reader: real and imaginary parts.
+    pub fn complex(&self) -> Vec<(f64, f64)> {
+        let values = self.schur.complex_eigenvalues();
+        values.iter().map(|z| (z.re, z.im)).collect()
+    }
+}
+
+/// The complex reader on a block of two alone, if the crate leaves it standing: then T is the block.
+pub fn standing_pair(block: &[f64; 4]) -> Option<Vec<(f64, f64)>> {
+    let run = run(2, block, f64::EPSILON, 1)?;
+    let stands = run
+        .t
+        .iter()
+        .zip(block)
+        .all(|(x, y)| x.to_bits() == y.to_bits());
+    stands.then(|| run.complex())
+}
+
+/// The plain entry at order 2, where it makes no run.
+pub fn plain_of_two(entries: &[f64]) -> Option<Vec<f64>> {
+    let values = DMatrix::from_column_slice(2, 2, entries).eigenvalues()?;
+    Some(values.as_slice().to_vec())
 }
 
 /// The pass count, which the crate does not tell: the largest budget from 1 on that gives `None`,

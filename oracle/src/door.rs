@@ -1,24 +1,13 @@
-//! Our side: the functions that the Rattle crates `door`, `leaf_door` and `run_door` export, each with
-//! a safe wrapper.
+//! Our side: the functions that the Rattle crates `door` and `leaf_door` export, each with a safe
+//! wrapper. Those of `door` are declared in the package `rust/manulsek`, for its users and for us.
 //!
 //! Nothing checks these declarations against the libraries. A slice is a pointer and a length in
 //! elements; numbers are themselves.
 
-mod raw {
-    unsafe extern "C" {
-        pub fn manulsek_sqrt(bits: u64) -> u64;
-    }
-}
+pub use manulsek::bytes::{complex_eigenvalues, decompose, eigenvalues, plain_eigenvalues, sqrt};
 
 /// The bits that ours answers for every NaN.
 pub const NAN: u64 = 0x7ff8_0000_0000_0000;
-
-/// The square root of the f64 with these bits, as bits.
-#[inline]
-pub fn sqrt(bits: u64) -> u64 {
-    // SAFETY: a number in, a number out; the function is proved for every u64.
-    unsafe { raw::manulsek_sqrt(bits) }
-}
 
 /// The bits of x, with ours for any NaN. Not inlined: behind an inlined root LLVM takes the test away
 /// and leaves the processor's own NaN, since either is a NaN to it (seen with rustc 1.95.0).
@@ -217,64 +206,6 @@ pub mod leaf {
                 q.as_mut_ptr(),
                 q.len(),
             )
-        }
-    }
-}
-
-/// The whole run, of `run_door`.
-pub mod run {
-    mod raw {
-        unsafe extern "C" {
-            pub fn manulsek_run(
-                t: *mut f64,
-                tn: usize,
-                q: *mut f64,
-                qn: usize,
-                n: usize,
-                wanted: usize,
-                eps: f64,
-                budget: u64,
-                work: *mut f64,
-                wn: usize,
-            ) -> u64;
-        }
-    }
-
-    /// What a run ends with.
-    #[derive(Clone, Copy, Debug, PartialEq)]
-    pub enum Answer {
-        /// T stands, and Q where it was wanted, after so many counted passes.
-        Passes(u64),
-        /// The counted passes reached the budget.
-        Budget,
-        /// The arguments do not fit each other; nothing was touched.
-        Unfit,
-    }
-
-    /// How the library tells the two that are no counts.
-    const BUDGET: u64 = u64::MAX;
-    const UNFIT: u64 = u64::MAX - 1;
-
-    /// t, a matrix of order n, becomes T. q, of the same length, becomes Q, unless `wanted` is 0: then
-    /// it is not touched and may be empty. work has 2n numbers and holds +0.0 afterwards.
-    #[inline]
-    pub fn schur(
-        t: &mut [f64],
-        q: &mut [f64],
-        n: usize,
-        wanted: usize,
-        eps: f64,
-        budget: u64,
-        work: &mut [f64],
-    ) -> Answer {
-        let (tn, qn, wn) = (t.len(), q.len(), work.len());
-        let (t, q, work) = (t.as_mut_ptr(), q.as_mut_ptr(), work.as_mut_ptr());
-        // SAFETY: the slices outlast the call and do not overlap, and the function, which takes every
-        // input, is proved to stay within them.
-        match unsafe { raw::manulsek_run(t, tn, q, qn, n, wanted, eps, budget, work, wn) } {
-            BUDGET => Answer::Budget,
-            UNFIT => Answer::Unfit,
-            passes => Answer::Passes(passes),
         }
     }
 }

@@ -4,10 +4,12 @@
 //! status is 0 if the two agree, 1 if a difference was found, 2 if the command could not be run.
 
 mod bench;
+mod call;
 mod compare;
 mod crate_side;
 mod door;
 mod jobs;
+mod judge;
 mod leaves;
 #[allow(dead_code)]
 #[rustfmt::skip]

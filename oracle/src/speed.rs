@@ -1,18 +1,18 @@
-//! Command `speed`: the time of the whole run, ours against the crate's, with Q and without.
+//! Command `speed`: the time of the door's entries, ours against the crate's.
 //!
-//! Both sides go over the same matrices, on one thread, and copy each before they run on it: the
-//! crate's functions take a matrix, or copy one, and ours works in place. Without Q the crate's run is
-//! reached through `eigenvalues`, which reads the diagonal besides. The crate allocates T, Q and a work
-//! vector each time; ours is lent them.
+//! Both sides go over the same matrices, on one thread. The crate's functions take a matrix, so one is
+//! copied each time, and allocate T, Q, a work vector and the list of eigenvalues; ours reads the matrix
+//! where it is, is lent the rest, and keeps its own working memory. Without Q the crate's run is reached
+//! through `eigenvalues`, which reads the diagonal besides; that is its plain entry.
 
-use crate::compare::same;
 use crate::crate_side;
-use crate::door::run::{schur, Answer};
+use crate::door;
 use crate::numbers::normal;
 use crate::options;
 use crate::random::Random;
 use crate::times::{Ratios, Times};
-use nalgebra::{DMatrix, Schur};
+use manulsek::bytes;
+use nalgebra::{DMatrix, Dyn, Schur};
 use std::hint::black_box;
 use std::time::Instant;
 
@@ -72,80 +72,138 @@ impl Options {
     }
 }
 
-/// The matrices of an order, and the memory that is lent to ours.
+/// The matrices of an order, their decompositions, and the memory that is lent to ours.
 struct Items {
     order: usize,
     matrices: Vec<DMatrix<f64>>,
+    runs: Vec<Run>,
     lent: Lent,
+}
+
+/// What the crate made of a matrix: as it has it, and T as ours reads it.
+struct Run {
+    schur: Schur<f64, Dyn>,
+    t: Vec<f64>,
 }
 
 struct Lent {
     t: Vec<f64>,
     q: Vec<f64>,
-    work: Vec<f64>,
+    re: Vec<f64>,
+    im: Vec<f64>,
 }
 
 impl Items {
     fn draw(order: usize, random: &mut Random) -> Items {
         let entries = order * order;
         let mut matrix = |_| DMatrix::from_fn(order, order, |_, _| normal(random));
+        let matrices: Vec<_> = (0..ENTRIES / entries).map(&mut matrix).collect();
+        let run = |matrix: &DMatrix<f64>| {
+            let schur = Schur::new(matrix.clone());
+            let t = schur.clone().unpack().1.as_slice().to_vec();
+            Run { schur, t }
+        };
         Items {
             order,
-            matrices: (0..ENTRIES / entries).map(&mut matrix).collect(),
+            runs: matrices.iter().map(run).collect(),
+            matrices,
             lent: Lent {
                 t: vec![0.0; entries],
                 q: vec![0.0; entries],
-                work: vec![0.0; 2 * order],
+                re: vec![0.0; order],
+                im: vec![0.0; order],
             },
         }
     }
 
-    /// On how many matrices ours does not end with the crate's T and Q, or without Q with its T.
+    /// On how many matrices ours has not the crate's bits. `compare` looks closer.
     fn differences(&mut self) -> usize {
-        let Items { matrices, lent, .. } = self;
-        let differs = |matrix: &&DMatrix<f64>| lent.check(matrix).is_err();
-        matrices.iter().filter(differs).count()
+        let Items {
+            matrices,
+            runs,
+            lent,
+            ..
+        } = self;
+        let both = matrices.iter().zip(runs.iter());
+        both.filter(|(matrix, run)| !lent.agrees(matrix, run))
+            .count()
     }
 }
 
 impl Lent {
-    fn check(&mut self, matrix: &DMatrix<f64>) -> Result<(), String> {
-        let (order, entries) = (matrix.nrows(), matrix.as_slice());
-        let (t, q) = crate_side::schur(order, entries, TOLERANCE, BUDGET as usize)
-            .ok_or("the crate reaches the budget")?;
-        // Without Q the one from before has to stay.
-        for wanted in [1, 0] {
-            let answer = self.run(matrix, wanted);
-            if !matches!(answer, Answer::Passes(_)) {
-                return Err(format!("ours answers {answer:?}"));
-            }
-            same("T", &self.t, &t)?;
-            same("Q", &self.q, &q)?;
-        }
-        Ok(())
+    fn agrees(&mut self, matrix: &DMatrix<f64>, run: &Run) -> bool {
+        let (n, budget) = (matrix.nrows(), BUDGET as usize);
+        let Some((t, q)) = crate_side::schur(n, matrix.as_slice(), TOLERANCE, budget) else {
+            return false;
+        };
+        let accepted = |answer: u64| answer >> 32 == 0;
+        // With Q and then without: the Q from before has to stay.
+        let runs = [1, 0].into_iter().all(|wanted| {
+            let same = accepted(self.run(matrix, wanted));
+            same && bytes::of(&self.t) == bytes::of(&t) && bytes::of(&self.q) == bytes::of(&q)
+        });
+        let pairs = accepted(self.read(run)) && {
+            let values = run.schur.complex_eigenvalues();
+            let mut pairs = values.iter().zip(self.re.iter().zip(&self.im));
+            pairs.all(|(z, (re, im))| z.re == *re && z.im == *im)
+        };
+        let plain = match matrix.eigenvalues() {
+            Some(values) => self.plain(matrix) == 0 && values.as_slice() == self.re,
+            None => self.plain(matrix) == 10 << 32,
+        };
+        runs && pairs && plain
     }
 
     #[inline]
-    fn run(&mut self, matrix: &DMatrix<f64>, wanted: usize) -> Answer {
-        let Lent { t, q, work } = self;
-        t.copy_from_slice(matrix.as_slice());
-        schur(t, q, matrix.nrows(), wanted, TOLERANCE, BUDGET, work)
+    fn run(&mut self, matrix: &DMatrix<f64>, wanted: u32) -> u64 {
+        let (t, q) = (bytes::of_mut(&mut self.t), bytes::of_mut(&mut self.q));
+        let (n, matrix) = (matrix.nrows(), bytes::of(matrix.as_slice()));
+        door::decompose(n, matrix, TOLERANCE.to_bits(), BUDGET, wanted, t, q)
+    }
+
+    #[inline]
+    fn plain(&mut self, matrix: &DMatrix<f64>) -> u64 {
+        let (n, matrix) = (matrix.nrows(), bytes::of(matrix.as_slice()));
+        door::plain_eigenvalues(n, matrix, bytes::of_mut(&mut self.re))
+    }
+
+    #[inline]
+    fn read(&mut self, run: &Run) -> u64 {
+        let n = self.re.len();
+        let (re, im) = (bytes::of_mut(&mut self.re), bytes::of_mut(&mut self.im));
+        door::complex_eigenvalues(n, bytes::of(&run.t), re, im)
     }
 }
 
 /// Runs on every matrix once.
 type Side = fn(&mut Items);
 
-/// The two ways to run, each with our side and the crate's.
-const WAYS: [(&str, Side, Side); 2] = [
+/// What is timed, each with our side and the crate's.
+const WAYS: [(&str, Side, Side); 4] = [
     ("with Q", |items| ours(items, 1), crates_with_q),
     ("without Q", |items| ours(items, 0), crates_without_q),
+    ("plain entry", our_plain, crates_without_q),
+    ("complex reader", our_reader, crates_reader),
 ];
 
 #[inline(never)]
-fn ours(items: &mut Items, wanted: usize) {
+fn ours(items: &mut Items, wanted: u32) {
     for matrix in &items.matrices {
         black_box(items.lent.run(black_box(matrix), wanted));
+    }
+}
+
+#[inline(never)]
+fn our_plain(items: &mut Items) {
+    for matrix in &items.matrices {
+        black_box(items.lent.plain(black_box(matrix)));
+    }
+}
+
+#[inline(never)]
+fn our_reader(items: &mut Items) {
+    for run in &items.runs {
+        black_box(items.lent.read(black_box(run)));
     }
 }
 
@@ -164,7 +222,14 @@ fn crates_without_q(items: &mut Items) {
     }
 }
 
-/// The times of every order with Q, and of every order without.
+#[inline(never)]
+fn crates_reader(items: &mut Items) {
+    for run in &items.runs {
+        black_box(black_box(run).schur.complex_eigenvalues());
+    }
+}
+
+/// The times of every order, one way after another.
 fn table(items: &mut [Items]) -> Vec<Times> {
     let mut table = Vec::new();
     for (_, ours, crates) in WAYS {
@@ -178,7 +243,7 @@ fn table(items: &mut [Items]) -> Vec<Times> {
     table
 }
 
-/// The microseconds of a run.
+/// The microseconds of a call.
 fn time(side: Side, items: &mut Items) -> f64 {
     let start = Instant::now();
     side(black_box(&mut *items));
@@ -187,11 +252,11 @@ fn time(side: Side, items: &mut Items) -> f64 {
 
 fn report(items: &[Items], tables: &[Vec<Times>]) {
     println!(
-        "\nmicroseconds a run on one thread, the least of {ROUNDS} rounds, {} times over",
+        "\nmicroseconds a call on one thread, the least of {ROUNDS} rounds, {} times over",
         tables.len()
     );
     println!(
-        "{:10} {:>6} {:>9} {:>10} {:>10} {:>8} {:>8} {:>8}",
+        "{:14} {:>6} {:>9} {:>10} {:>10} {:>8} {:>8} {:>8}",
         "", "order", "matrices", "ours", "crate", "least", "middle", "largest"
     );
     for (number, (name, _, _)) in WAYS.iter().enumerate() {
@@ -199,7 +264,7 @@ fn report(items: &[Items], tables: &[Vec<Times>]) {
             let name = if place == 0 { name } else { "" };
             let line = number * ORDERS.len() + place;
             let times: Vec<Times> = tables.iter().map(|table| table[line]).collect();
-            print!("{name:10} {:>6} {:>9}", items.order, items.matrices.len());
+            print!("{name:14} {:>6} {:>9}", items.order, items.matrices.len());
             report_line(&times);
         }
     }
@@ -209,7 +274,7 @@ fn report(items: &[Items], tables: &[Vec<Times>]) {
 fn report_line(times: &[Times]) {
     let (least, ratios) = (Times::least(times.iter().copied()), Ratios::of(times));
     println!(
-        " {:>10.2} {:>10.2} {:>8.2} {:>8.2} {:>8.2}",
+        " {:>10.3} {:>10.3} {:>8.2} {:>8.2} {:>8.2}",
         least.ours, least.crates, ratios.least, ratios.middle, ratios.largest
     );
 }

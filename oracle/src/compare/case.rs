@@ -5,14 +5,16 @@ use crate::numbers::between;
 use crate::random::Random;
 use std::ops::RangeInclusive;
 
-/// 0, where only an exact zero closes a window; one whose square vanishes; the usual one; and two that
-/// close windows early.
-pub const TOLERANCES: [f64; 5] = [
+/// 0, where only an exact zero closes a window; one whose square vanishes; the usual one; two that close
+/// windows early; -0, which counts as 0; and the largest.
+pub const TOLERANCES: [f64; 7] = [
     0.0,
     f64::from_bits((1023 - 600) << 52),
     f64::EPSILON,
     1e-3,
     0.5,
+    -0.0,
+    1.0 - f64::EPSILON / 2.0,
 ];
 
 /// Budgets that many runs reach.
@@ -54,7 +56,7 @@ impl Case {
     }
 }
 
-/// More than half are the usual one: at the two least many matrices reach even a budget of 1000 (at
+/// More than half are the usual one: at the three least many matrices reach even a budget of 1000 (at
 /// order 32 nearly all random ones), and then there is no T to compare.
 fn tolerance(random: &mut Random) -> f64 {
     match random.below(2 * TOLERANCES.len() as u64) as usize {
@@ -89,7 +91,8 @@ mod tests {
             assert!(cases.iter().any(|case| case.order == order));
         }
         for tolerance in TOLERANCES {
-            assert!(cases.iter().any(|case| case.tolerance == tolerance));
+            let bits = tolerance.to_bits();
+            assert!(cases.iter().any(|case| case.tolerance.to_bits() == bits));
         }
         for budget in SMALL_BUDGETS.into_iter().chain([1000, 10_000]) {
             assert!(cases.iter().any(|case| case.budget == budget));

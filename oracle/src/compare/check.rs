@@ -1,215 +1,156 @@
-//! All that a run promises, held to the crate on one matrix at one tolerance and one budget.
+//! All that is asked of a side on one matrix at one tolerance and one budget.
 
 use super::case::Case;
-use crate::crate_side;
-use crate::door::run::Answer;
+use super::families::one_in;
+use super::reached::Reached;
+use super::shapes;
+use super::side::Side;
+use super::trial::{self, Left};
+use crate::call::{Call, Entry};
+use crate::judge::{Answer, Judge};
 use crate::random::Random;
 
-/// Our side, or a wrong one in a test: t, q, order, wanted, tolerance, budget, workspace.
-pub type Side = fn(&mut [f64], &mut [f64], usize, usize, f64, u64, &mut [f64]) -> Answer;
+/// A matrix on which the plain entry does not end within so many passes is seldom tried: most of these
+/// take all of its 10,000, on both sides.
+const PATIENCE: u64 = 400;
+const SELDOM: u64 = 64;
+
+/// The largest budget that is allowed.
+const MOST: u64 = 1_000_000;
 
 pub struct Checked {
-    /// Whether the crate ends below the budget.
-    pub accepted: bool,
+    /// The number with which the decomposition with Q is to be refused at the case's budget, 0 if it is
+    /// to be accepted.
+    pub number: u8,
+    pub reached: Reached,
     /// The first thing that is not as it should be.
     pub wrong: Option<String>,
 }
 
-pub fn check(side: Side, case: &Case, lent: &mut Random) -> Checked {
-    let mut check = Check { side, case, lent };
-    let right = check.crates(case.budget);
-    let wrong = match &right {
-        Some(right) => check.all_of_an_end(right),
-        None => check
-            .reaches(case.budget, true)
-            .and_then(|()| check.reaches(case.budget, false)),
+pub fn check(side: &Side, case: &Case, lent: &mut Random) -> Checked {
+    let mut check = Check {
+        side,
+        case,
+        judge: Judge::default(),
+        lent,
+        number: None,
+        reached: Reached::default(),
     };
+    let wrong = check.all().err();
     Checked {
-        accepted: right.is_some(),
-        wrong: wrong.err(),
+        number: check.number.expect("a call was made"),
+        reached: check.reached,
+        wrong,
     }
 }
 
 struct Check<'a> {
-    side: Side,
+    side: &'a Side,
     case: &'a Case,
+    judge: Judge,
     /// For what stands in lent memory before a call, and in which of the ways it is called.
     lent: &'a mut Random,
-}
-
-/// T and Q.
-type Right = (Vec<f64>, Vec<f64>);
-
-/// What a call of ours left.
-struct Left {
-    /// None where the budget was reached.
-    passes: Option<u64>,
-    t: Vec<f64>,
-    q: Vec<f64>,
+    number: Option<u8>,
+    reached: Reached,
 }
 
 impl Check<'_> {
-    /// The crate ends: so must ours, with the same count, with Q and without. It must also do so at
-    /// the least budget that is enough, and not at the one below.
-    fn all_of_an_end(&mut self, right: &Right) -> Result<(), String> {
+    fn all(&mut self) -> Result<(), String> {
+        let t = self.decompositions()?;
+        self.readers(t)?;
+        self.plain()
+    }
+
+    /// The first call of all is the one that tells the case's own number.
+    fn make(&mut self, call: &Call) -> Result<Left, String> {
+        let left = trial::make(self.side, &mut self.judge, call, self.lent);
+        self.number.get_or_insert(left.ruling.answer.number());
+        self.reached.count(call.entry, left.ruling.answer);
+        match left.wrong {
+            Some(wrong) => Err(wrong),
+            None => Ok(left),
+        }
+    }
+
+    /// With Q and without. A run that ends must do so at the least budget that is enough too, and not at
+    /// the one below. The answer is the T that came back.
+    fn decompositions(&mut self) -> Result<Vec<u8>, String> {
         let budget = self.case.budget;
-        let passes = self.ends(budget, true, right)?;
-        self.pin(passes)?;
-        self.ends_after(passes, budget, false, right)?;
-        let wanted = self.lent.below(2) == 0;
+        let with = self.decompose(budget, true)?;
+        self.decompose(budget, false)?;
+        let Answer::Accepted(passes) = with.ruling.answer else {
+            return Ok(with.first);
+        };
+        let wanted = one_in(self.lent, 2);
         if passes + 1 < budget {
-            self.ends_after(passes, passes + 1, wanted, right)?;
+            self.decompose(passes + 1, wanted)?;
         }
         if passes > 0 {
-            self.reaches(passes, wanted)?;
+            self.decompose(passes, wanted)?;
         }
-        Ok(())
+        if one_in(self.lent, 64) {
+            for budget in [0, MOST, MOST + 1, u64::MAX] {
+                self.decompose(budget, wanted)?;
+            }
+        }
+        Ok(with.first)
     }
 
-    /// Holds our count to the crate, which tells none: it is the largest budget from 1 on that the
-    /// crate refuses, or 0 if it refuses none. A run that is refused at one budget is refused at every
-    /// smaller one; so the count is `passes` exactly if that budget is refused and the next one is
-    /// not. This takes two runs, where a search takes as many as the count has binary digits, and
-    /// more. A count of 0 is no budget: to the crate 0 means that there is no bound.
-    fn pin(&self, passes: u64) -> Result<(), String> {
-        let budget = self.case.budget;
-        if passes >= budget {
-            return Err(format!("ours counts {passes} passes at budget {budget}"));
-        }
-        if passes > 0 && self.crates(passes).is_some() {
-            return Err(format!("ours counts {passes} passes, the crate fewer"));
-        }
-        // That the crate accepts at the case's own budget is known.
-        if passes + 1 < budget && self.crates(passes + 1).is_none() {
-            return Err(format!("ours counts {passes} passes, the crate more"));
-        }
-        Ok(())
-    }
-
-    fn crates(&self, budget: u64) -> Option<Right> {
+    fn decompose(&mut self, budget: u64, wanted: bool) -> Result<Left, String> {
         let Case {
             order,
             entries,
             tolerance,
             ..
         } = self.case;
-        crate_side::schur(*order, entries, *tolerance, budget as usize)
+        let mut call = Call::new(Entry::Decompose, *order, entries);
+        (call.tolerance, call.budget) = (tolerance.to_bits(), budget);
+        call.want_q(wanted, self.lent);
+        self.make(&call)
     }
 
-    /// Ours must reach this budget.
-    fn reaches(&mut self, budget: u64, wanted: bool) -> Result<(), String> {
-        match self.call(budget, wanted)?.passes {
-            None => Ok(()),
-            Some(passes) => Err(format!(
-                "{}: ours ends after {passes} passes at budget {budget}, the crate reaches it",
-                with(wanted)
-            )),
-        }
-    }
-
-    /// Ours must end below this budget, with the right T and, if it is wanted, Q. The answer is its
-    /// count.
-    fn ends(&mut self, budget: u64, wanted: bool, right: &Right) -> Result<u64, String> {
-        let left = self.call(budget, wanted)?;
-        let Some(passes) = left.passes else {
-            return Err(format!(
-                "{}: ours reaches the budget {budget}, the crate ends below it",
-                with(wanted)
-            ));
-        };
-        same(&format!("T {}", with(wanted)), &left.t, &right.0)?;
-        if wanted {
-            same("Q", &left.q, &right.1)?;
-        }
-        Ok(passes)
-    }
-
-    fn ends_after(
-        &mut self,
-        passes: u64,
-        budget: u64,
-        wanted: bool,
-        right: &Right,
-    ) -> Result<(), String> {
-        let count = self.ends(budget, wanted, right)?;
-        if count != passes {
-            return Err(format!(
-                "{}: ours counts {count} passes at budget {budget}, before it was {passes}",
-                with(wanted)
-            ));
-        }
-        Ok(())
-    }
-
-    /// One call of ours on lent memory that holds anything. Whatever the answer, the workspace must
-    /// hold +0.0 after it, and a q that is not wanted what it held before.
-    fn call(&mut self, budget: u64, wanted: bool) -> Result<Left, String> {
+    /// On the T that came back; on the crate's own, where it was refused for what it holds; and on one
+    /// that is damaged.
+    fn readers(&mut self, came_back: Vec<u8>) -> Result<(), String> {
         let Case {
             order,
             entries,
             tolerance,
-            ..
+            budget,
         } = self.case;
-        let mut t = entries.clone();
-        let mut work = garbage(self.lent, 2 * order);
-        // Any number but 0 asks for Q. Where it is not wanted, q may be empty.
-        let (number, length) = match (wanted, self.lent.below(2)) {
-            (true, 0) => (1, t.len()),
-            (true, _) => (1 + self.lent.word() as usize / 2, t.len()),
-            (false, 0) => (0, t.len()),
-            (false, _) => (0, 0),
+        for entry in [Entry::Real, Entry::Complex] {
+            let mut call = Call::new(entry, *order, &[]);
+            call.input.clone_from(&came_back);
+            self.make(&call)?;
+        }
+        let crates = self.judge.t(*order, entries, *tolerance, *budget);
+        let mut t = match crates {
+            Some(t) => {
+                if self.number != Some(0) {
+                    self.read(&t)?;
+                }
+                t
+            }
+            None => shapes::draw(self.lent, *order),
         };
-        let mut q = garbage(self.lent, length);
-        let before = q.clone();
-        let answer = (self.side)(
-            &mut t, &mut q, *order, number, *tolerance, budget, &mut work,
-        );
-        let passes = match answer {
-            Answer::Passes(passes) => Some(passes),
-            Answer::Budget => None,
-            Answer::Unfit => return Err(format!("{}: ours refuses", with(wanted))),
-        };
-        if let Some(place) = work.iter().position(|x| x.to_bits() != 0) {
-            let x = work[place].to_bits();
-            return Err(format!(
-                "workspace {}, place {place}: ours {x:016x}, right +0.0",
-                with(wanted)
-            ));
-        }
-        if !wanted && !unchanged(&q, &before) {
-            return Err("ours touches a q that is not wanted".to_string());
-        }
-        Ok(Left { passes, t, q })
+        shapes::damage(self.lent, *order, &mut t);
+        self.read(&t)
     }
-}
 
-fn with(wanted: bool) -> &'static str {
-    if wanted {
-        "with Q"
-    } else {
-        "without Q"
-    }
-}
-
-/// Numbers of any bits.
-pub fn garbage(random: &mut Random, length: usize) -> Vec<f64> {
-    (0..length).map(|_| f64::from_bits(random.word())).collect()
-}
-
-/// Whether every bit is as it was, those of NaNs too.
-pub fn unchanged(now: &[f64], before: &[f64]) -> bool {
-    now.iter()
-        .zip(before)
-        .all(|(x, y)| x.to_bits() == y.to_bits())
-}
-
-/// That two lists have the same bits; any NaN is as any other.
-pub fn same(name: &str, ours: &[f64], right: &[f64]) -> Result<(), String> {
-    for (place, (x, y)) in ours.iter().zip(right).enumerate() {
-        if x.to_bits() != y.to_bits() && !(x.is_nan() && y.is_nan()) {
-            let [x, y] = [x, y].map(|x| format!("{:016x}", x.to_bits()));
-            return Err(format!("{name}, place {place}: ours {x}, right {y}"));
+    fn read(&mut self, t: &[f64]) -> Result<(), String> {
+        for entry in [Entry::Real, Entry::Complex] {
+            self.make(&Call::new(entry, self.case.order, t))?;
         }
+        Ok(())
     }
-    Ok(())
+
+    fn plain(&mut self) -> Result<(), String> {
+        let Case { order, entries, .. } = self.case;
+        let long = *order > 2 && !self.judge.plain_ends(*order, entries, PATIENCE);
+        if long && !one_in(self.lent, SELDOM) {
+            return Ok(());
+        }
+        self.make(&Call::new(Entry::Plain, *order, entries))?;
+        Ok(())
+    }
 }

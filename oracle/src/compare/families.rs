@@ -35,7 +35,7 @@ pub const FAMILIES: &[Family] = &[
 ];
 
 /// A matrix by its entry at each row and column.
-fn matrix(n: usize, mut entry: impl FnMut(usize, usize) -> f64) -> Vec<f64> {
+pub fn matrix(n: usize, mut entry: impl FnMut(usize, usize) -> f64) -> Vec<f64> {
     let places = (0..n).flat_map(|column| (0..n).map(move |row| (row, column)));
     places.map(|(row, column)| entry(row, column)).collect()
 }
@@ -50,11 +50,11 @@ fn any(random: &mut Random) -> f64 {
     }
 }
 
-fn one_in(random: &mut Random, many: u64) -> bool {
+pub fn one_in(random: &mut Random, many: u64) -> bool {
     random.below(many) == 0
 }
 
-fn sign(random: &mut Random) -> f64 {
+pub fn sign(random: &mut Random) -> f64 {
     [1.0, -1.0][random.below(2) as usize]
 }
 

@@ -1,0 +1,127 @@
+//! The real Schur decomposition of nalgebra 0.35.0, bit for bit, from a library in which every function
+//! is proved: for f64 matrices of order 1 to 64, with T, Q, the pass count and the eigenvalues, and with
+//! a refusal by number and place for every input that has no good answer. No call panics in the library,
+//! none goes on for ever, and a missing number never becomes a zero.
+//!
+//! Matrices are lists of `order * order` numbers, column by column; rows and columns count from 0.
+//!
+//! ```
+//! use manulsek::{Refusal, Schur};
+//!
+//! // Rows (0 -1 5), (1 0 6), (0 0 2): a complex pair, and a real number.
+//! let matrix = [0.0, 1.0, 0.0, -1.0, 0.0, 0.0, 5.0, 6.0, 2.0];
+//! let schur = Schur::try_new(3, &matrix, f64::EPSILON, 1000)?;
+//! assert_eq!(schur.passes(), 0);
+//! assert_eq!(schur.complex_eigenvalues()?, [(0.0, 1.0), (0.0, -1.0), (2.0, 0.0)]);
+//!
+//! // The real reader says that they are complex, by its number.
+//! let refusal = schur.eigenvalues().unwrap_err();
+//! assert_eq!(refusal.number, 10);
+//! assert_eq!(refusal.to_string(), "some eigenvalues are complex");
+//!
+//! // A missing number is refused, with its place.
+//! let missing = [1.0, 2.0, f64::NAN, 4.0];
+//! let refusal = Schur::try_new(2, &missing, f64::EPSILON, 1000).unwrap_err();
+//! assert_eq!(refusal, Refusal { number: 6, row: 0, col: 1 });
+//! # Ok::<(), Refusal>(())
+//! ```
+//!
+//! Who has memory of his own lends it: [`decompose`], [`eigenvalues`], [`complex_eigenvalues`] and
+//! [`plain_eigenvalues`] allocate nothing. Who has bytes takes the same functions of [`bytes`]. The
+//! numbers of the refusals are told by [`Refusal`]. What the library works in stands on the stack: some
+//! hundred KiB, which Rust's own threads have.
+
+pub mod bytes;
+pub mod raw;
+mod refusal;
+mod schur;
+
+pub use refusal::Refusal;
+pub use schur::Schur;
+
+/// The largest order that the library takes.
+pub const MAX_ORDER: usize = 64;
+
+/// The largest budget that the library takes.
+pub const MAX_BUDGET: u64 = 1_000_000;
+
+/// What an entry of T or Q is after a run that was refused: 7FF8000000000000, whatever `f64::NAN` is.
+pub const NAN: f64 = f64::from_bits(0x7ff8_0000_0000_0000);
+
+/// T of a matrix, Q too if it is asked for, and the pass count.
+///
+/// The matrix, t, and q if there is one, have `order * order` numbers. The tolerance is from 0 to below
+/// 1, `f64::EPSILON` for most uses; the budget is from 1 to [`MAX_BUDGET`], and the pass count of an
+/// accepted call is below it.
+///
+/// Refused with 1 to 6, nothing was touched. Refused with 7, 8 or 9, every number of t and q is [`NAN`].
+#[inline]
+pub fn decompose(
+    order: usize,
+    matrix: &[f64],
+    tolerance: f64,
+    budget: u64,
+    t: &mut [f64],
+    q: Option<&mut [f64]>,
+) -> Result<u32, Refusal> {
+    let wanted = u32::from(q.is_some());
+    Refusal::of(bytes::decompose(
+        order,
+        bytes::of(matrix),
+        tolerance.to_bits(),
+        budget,
+        wanted,
+        bytes::of_mut(t),
+        bytes::of_mut(q.unwrap_or_default()),
+    ))
+}
+
+/// The real reader: the eigenvalues of a T, if all of them are real. They stand on its diagonal.
+///
+/// `values` has `order` numbers. Refused, nothing was touched; 10 says that some are complex.
+#[inline]
+pub fn eigenvalues(order: usize, t: &[f64], values: &mut [f64]) -> Result<(), Refusal> {
+    done(bytes::eigenvalues(
+        order,
+        bytes::of(t),
+        bytes::of_mut(values),
+    ))
+}
+
+/// The complex reader: the real and the imaginary parts of the eigenvalues of a T. A pair stands in two
+/// places one after the other, the one with the imaginary part above 0 first.
+///
+/// `re` and `im` have `order` numbers each. Refused, nothing was touched.
+#[inline]
+pub fn complex_eigenvalues(
+    order: usize,
+    t: &[f64],
+    re: &mut [f64],
+    im: &mut [f64],
+) -> Result<(), Refusal> {
+    let (re, im) = (bytes::of_mut(re), bytes::of_mut(im));
+    done(bytes::complex_eigenvalues(order, bytes::of(t), re, im))
+}
+
+/// The plain entry: the eigenvalues of a matrix, if all of them are real, without T and Q; with the
+/// tolerance 2^-52 and the budget 10,000. At order 2 the larger comes first.
+///
+/// `values` has `order` numbers. Refused, nothing was touched.
+#[inline]
+pub fn plain_eigenvalues(order: usize, matrix: &[f64], values: &mut [f64]) -> Result<(), Refusal> {
+    let values = bytes::of_mut(values);
+    done(bytes::plain_eigenvalues(order, bytes::of(matrix), values))
+}
+
+/// The square root, rounded as IEEE 754 says; [`NAN`] for a NaN and for a number below 0.
+#[inline]
+pub fn sqrt(x: f64) -> f64 {
+    f64::from_bits(bytes::sqrt(x.to_bits()))
+}
+
+fn done(answer: u64) -> Result<(), Refusal> {
+    Refusal::of(answer).map(|_| ())
+}
+
+#[cfg(test)]
+mod tests;
