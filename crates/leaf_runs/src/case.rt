@@ -99,7 +99,6 @@ fn changed(group: usize, k: usize, c: Case, t: &mut [f64], a: &[f64]) {
 // `block_fits` has its number of entries at `other`: it is given no matrix.
 fn by_reading(group: usize, k: usize, c: Case, t: &[f64], a: &[f64]) {
     match group {
-        11 => number(matrix::dot(t, a)),
         12 => number(slices::sum(k, t)),
         13 => number(matrix::entry(t, c.n, c.row, c.c0)),
         14 => flag(matrix::block_fits(c.n, c.other, c.row, c.rows, c.c0, c.c1)),
@@ -116,6 +115,7 @@ fn tell(group: usize, k: usize, c: Case, t: &mut [f64], a: &mut [f64], w: &mut [
         6 => reductions::assemble(t, c.n, w, a),
         7..=8 => blocks::multiply(c, t, a, w),
         9..=10 => reductions::reduce(group, k, c, t, a, w),
+        11 => slices::two(k, t, a),
         _ => by_reading(group, k, c, t, a),
     }
 }

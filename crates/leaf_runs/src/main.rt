@@ -37,7 +37,7 @@ fn main() {
  |mul_to, two places for three rows
 07 |reduce, matrix|reduce, Q
 075 |reduce, column
-1278 |dot
+1278 |dot|copy_from
 17 |norm_squared|norm|camax
 0135 |entry
 083456 |block_fits

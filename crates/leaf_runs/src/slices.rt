@@ -2,6 +2,17 @@
 // the list in `main`.
 use crate::say::flag;
 use crate::say::number;
+use crate::say::numbers;
+
+// Of two slices: their product, or what the first becomes when the second is copied into it.
+pub(crate) fn two(k: usize, x: &mut [f64], y: &[f64]) {
+    if k == 1 {
+        number(matrix::dot(x, y));
+        return;
+    }
+    matrix::copy_from(x, y);
+    numbers(x);
+}
 
 pub(crate) fn sum(k: usize, x: &[f64]) -> f64 {
     match k {

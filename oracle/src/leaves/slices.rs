@@ -6,13 +6,25 @@ use super::say::{numbers, told};
 
 pub fn answer(name: &str, wholes: &[usize]) -> Option<String> {
     match *wholes {
-        [len, other_len, seed, other] if name == "dot" => {
-            let (x, y) = (many(len, seed)?, many(other_len, other)?);
-            Some(numbers(&[plain::dot(&x, &y)]))
-        }
+        [len, other_len, seed, other] => of_two(name, &mut many(len, seed)?, &many(other_len, other)?),
         [len, seed] => of_one(name, &mut many(len, seed)?, drawn(seed, len)),
         _ => None,
     }
+}
+
+/// A product, or what the first becomes.
+fn of_two(name: &str, x: &mut [f64], y: &[f64]) -> Option<String> {
+    match name {
+        "dot" => return Some(numbers(&[plain::dot(x, y)])),
+        // What is too long is not copied.
+        "copy_from" => {
+            if let Some(front) = x.get_mut(..y.len()) {
+                front.copy_from_slice(y);
+            }
+        }
+        _ => return None,
+    }
+    Some(numbers(x))
 }
 
 /// A sum, or what the slice becomes; `next` is the number that would come next.

@@ -1,2 +1,0 @@
--- `Number`: the run's answer as a number.
-pub mod Number
