@@ -1,3 +1,8 @@
--- Laws that other crates may cite. `Passing`: what follows where all checks of the arguments have passed.
+-- Laws that other crates may cite. `Passing`: what follows where all checks of the arguments have passed; `Touched`: what lent memory holds afterwards;
+-- `Count`: the answer by the counted passes; `Independent`: an accepted T and its count do not depend on Q; `One`: two answers that the contract allows are one.
 pub mod Passing
+pub mod Touched
+pub mod Count
+pub mod Independent
+pub mod One
 mod Judging

@@ -38,12 +38,14 @@ all-right lengths n tolerance budget m h =
     let d = next-passed _ _ (c .1) in
     let e = next-passed _ _ (d .1) in
     let none = eqb-false n 0 (refuse-passed _ _ (a .0)) in
+    let fourth = refuse-passed _ _ (d .0) in
+    let fifth = refuse-passed _ _ (e .0) in
     record {
       some = omega arith;
       order = ltb-false 64 n (refuse-passed _ _ (b .0));
       lent = not-false lengths (refuse-passed _ _ (c .0));
-      near = not-false (toleranceFits tolerance) (refuse-passed _ _ (d .0));
-      bound = not-false (budgetFits budget) (refuse-passed _ _ (e .0));
+      near = not-false (toleranceFits tolerance) (cc);
+      bound = not-false (budgetFits budget) (cc);
       entries = refuseAt-passed _ _ (e .1);
     }
 

@@ -1,5 +1,5 @@
 -- The decomposition on all inputs: what is answered, and what T, Q and the workspace hold afterwards.
-use Prim.Native.Nat.{ℕ}
+use Prim.Native.Nat.{ℕ, _<_}
 use mathlib.Core.Bool.{Bool}
 use mathlib.Core.List.{List}
 use lib.ListN.{length}
@@ -73,3 +73,8 @@ unfoldable pub decompositionOf : Bool → ℕ → Float → ℕ → List Float �
 decompositionOf wanted n tolerance budget m p w =
     let lengths = lengthsFit wanted n (length m) (length (p .t)) (length (p .q)) (length w) in
     begun (argumentChecks lengths n tolerance budget m) (judged wanted n (ranOf wanted n tolerance budget (pair m (p .q)) w) w) p w
+
+-- an accepted count lies below the budget
+abbrev pub belowBudget : Decomposed → ℕ → Type 0
+belowBudget (Accepted passes) budget = passes < budget
+belowBudget (Declined r) budget = Unit {0}

@@ -12,7 +12,7 @@ ghost use Rattle.refusal.specs.Refusal.{refuseAt, _next_};
 ghost use Rattle.refusal.specs.Search.{firstNotFinite, firstSpoiling};
 ghost use Rattle.schur.specs.Run.{ranOf, runFits};
 ghost use Rattle.decomposition.specs.Checks.{toleranceFits, budgetFits, lengthsFit, argumentChecks, resultChecks};
-ghost use Rattle.decomposition.specs.Decomposition.{outcome, verdict, passesOf, spoiled, settlement, settled, judged, decompositionOf};
+ghost use Rattle.decomposition.specs.Decomposition.{outcome, verdict, passesOf, spoiled, settlement, settled, judged, decompositionOf, belowBudget};
 use refusal::Checked;
 use refusal::Refusal;
 use schur::Ran;
@@ -202,6 +202,7 @@ pub fn try_new(
     work: &mut [f64],
 ) -> Decomposed
     ensures { λ r. ⌜ outcome r (pair (now (t .exit)) (now (q .exit))) (now (work .exit)) ≡ decompositionOf wanted n tolerance budget (now (m .entry)) (pair (now (t .entry)) (now (q .entry))) (now (work .entry)) ⌝ }
+    ensures { λ r. ⌜ belowBudget r budget ⌝ }
 {
     match check_arguments(
         m,

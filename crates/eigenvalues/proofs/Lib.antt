@@ -1,3 +1,5 @@
+-- `One`: two answers that a contract allows are one.
+pub mod One
 mod Answering
 mod Checking
 mod Diagonal

@@ -1,4 +1,4 @@
--- Checks in turn: what follows where all have passed. Assumes nothing.
+-- Checks in turn: what follows where all have passed, and which refusals they may come to. Assumes nothing.
 use mathlib.Core.Bool.{Bool, true, false}
 use mathlib.Core.Path.{_≡_, refl, subst}
 use Rattle.refusal.specs.declared.refusal.Place.{Place}
@@ -21,6 +21,10 @@ unfolding _next_
 next-passed Passed d h = (refl, h)
 next-passed (Refused r) d h = absurd (refused-not-passed r h)
 
+pub next-on : (c d : Checked) → c ≡ Passed → (c next d) ≡ d
+unfolding _next_
+next-on c d h = rw h
+
 pub refuse-passed : (fault : Bool) (r : Refusal) → refuse fault r ≡ Passed → fault ≡ false
 unfolding refuse
 refuse-passed true r h = absurd (refused-not-passed r h)
@@ -30,3 +34,19 @@ pub refuseAt-passed : (r : Place → Refusal) (s : Search) → refuseAt r s ≡ 
 unfolding refuseAt
 refuseAt-passed r (At p) h = absurd (refused-not-passed (r p) h)
 refuseAt-passed r Nowhere h = refl
+
+-- ---- P holds of every refusal that checks come to
+
+abbrev pub Only : (Refusal → Type 0) → Checked → Type 0
+Only P Passed = Unit {0}
+Only P (Refused r) = P r
+
+pub only-next : (P : Refusal → Type 0) (c d : Checked) → Only P c → Only P d → Only P (c next d)
+unfolding _next_
+only-next P Passed d h k = k
+only-next P (Refused r) d h k = h
+
+pub only-at : (P : Refusal → Type 0) (f : Place → Refusal) (s : Search) → ((p : Place) → P (f p)) → Only P (refuseAt f s)
+unfolding refuseAt
+only-at P f (At p) h = h p
+only-at P f Nowhere h = tt

@@ -85,7 +85,7 @@ answered-same budget amax x y a =
     let there = ap (λ s. answered budget amax (running s (y .pair))) (a .state) in
     record { answer = here .answer ∙ ap (λ r. r .answer) there; t = here .t ∙ ap (λ r. r .pair .t) there }
 
-ranOf-same : (b d : Bool) (n : ℕ) (eps : Float) (budget : ℕ) (t q q' w : List Float) → Same (ranOf b n eps budget (pair t q) w) (ranOf d n eps budget (pair t q') w)
+pub ranOf-same : (b d : Bool) (n : ℕ) (eps : Float) (budget : ℕ) (t q q' w : List Float) → Same (ranOf b n eps budget (pair t q) w) (ranOf d n eps budget (pair t q') w)
 unfolding ranOf
 ranOf-same b d n eps budget t q q' w =
     same-cond (eqb n 1) (record { answer = refl; t = refl })

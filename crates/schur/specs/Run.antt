@@ -105,6 +105,10 @@ ranOf wanted n eps budget p w =
     cond (eqb n 1) (left (Ended 0) (pair (p .t) (onQ wanted (filled one) (p .q))))
     (cond (eqb n 2) (left (Ended 0) (orderTwo wanted p)) (answered budget (largest (p .t)) (runFrom wanted n eps budget (opened wanted n eps w p))))
 
+-- the counted passes of that run: none at orders 1 and 2
+unfoldable pub countOf : Bool → ℕ → Float → ℕ → Pair → List Float → ℕ
+countOf wanted n eps budget p w = cond (eqb n 1) 0 (cond (eqb n 2) 0 (runFrom wanted n eps budget (opened wanted n eps w p) .state .passes))
+
 -- where something does not fit nothing is done
 unfoldable pub runOf : Bool → ℕ → Float → ℕ → Pair → List Float → Left
 runOf wanted n eps budget p w = cond (runFits wanted n (length (p .t)) (length (p .q)) (length w)) (ranOf wanted n eps budget p w) (left Unfit p)

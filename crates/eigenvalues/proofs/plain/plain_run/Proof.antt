@@ -9,12 +9,12 @@ use Rattle.eigenvalues.proofs.plain.plain_run.Tie as tie
 
 returns : tie.Need-returns
 returns c =
-    let left = c .before .before .before .before .before .before .before .before .try-new .ensures ∙ plain-judged _ _ _ _ _ (omega arith) (omega arith) (omega arith) (omega arith) (omega arith) (c .before .before .before .before .before .before .before .before .before .before .before .before .before .before .before .before .pre .5) in
+    let left = c .before .before .before .before .before .before .before .before .try-new .ensures .0 ∙ plain-judged _ _ _ _ _ (omega arith) (omega arith) (omega arith) (omega arith) (omega arith) (c .before .before .before .before .before .before .before .before .before .before .before .before .before .before .before .before .pre .5) in
     (run-refused _ _ _ _ (sym (ap (λ o. o .answer) left) ∙ c .before .r .given .1), ap (λ o. o .work) left ∙ judged-work _ _ _ _)
 
 returns-2 : tie.Need-returns-2
 returns-2 c =
-    let left = c .before .before .before .before .before .before .before .before .before .before .before .before .try-new .ensures ∙ plain-judged _ _ _ _ _ (omega arith) (omega arith) (omega arith) (omega arith) (omega arith) (c .before .before .before .before .before .before .before .before .before .before .before .before .before .before .before .before .before .before .before .before .pre .5) in
+    let left = c .before .before .before .before .before .before .before .before .before .before .before .before .try-new .ensures .0 ∙ plain-judged _ _ _ _ _ (omega arith) (omega arith) (omega arith) (omega arith) (omega arith) (c .before .before .before .before .before .before .before .before .before .before .before .before .before .before .before .before .before .before .before .before .pre .5) in
     (run-read _ _ _ _ _ _ (sym (ap (λ o. o .answer) left) ∙ c .before .before .before .before .before .enum-told .given .1) (ap (λ o. o .pair .t) left) (c .before .before .diagonal-of .ensures), ap (λ o. o .work) left ∙ judged-work _ _ _ _)
 
 pub plain-run-spec : {M : Type 1} → statement M

@@ -6,7 +6,7 @@ use Rattle.refusal.proofs.search.row_spoiling.Statement.{statement}
 use Rattle.refusal.proofs.search.row_spoiling.Tie as tie
 
 pub row-spoiling-spec : {M : Type 1} → statement M
-row-spoiling-spec = tie.close (tie.spec (λ c. omega arith) (λ c. (row-last _ _ _ (c .if1 .taken), omega arith))
+row-spoiling-spec = tie.close (tie.spec (λ c. omega arith) (λ c. (row-last _ _ _ (omega arith), omega arith))
     (λ c κs. omega arith) (λ c. omega arith)
     (λ c. (row-just _ _ _ (omega arith) (sym (c .before .just-below-spoils .ensures) ∙ c .if2 .taken), omega arith))
     (λ c κs. omega arith)

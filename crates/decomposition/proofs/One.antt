@@ -1,0 +1,31 @@
+-- One contract, one answer: two answers of `try_new`, each with the lent buffers behind it, that its contract allows on the same arguments are the same.
+-- The contract is the one that is read from the source, `reads.Post`: what the function has to show. Assumes nothing.
+use mathlib.Core.Path.{_≡_, ap}
+use mathlib.Core.List.{List}
+use contract.Lifetimes.{Lfts}
+use borrow.Fn.Kinds.{Dens, endedOf}
+use denote.Triple.Clauses.{AtExit}
+use lib.Ieee.{Float}
+use Rattle.loops.specs.One.{one-answer}
+use Rattle.decomposition.specs.declared.Decomposed.{Decomposed}
+use Rattle.decomposition.proofs.try_new.Kinds as kinds
+use Rattle.decomposition.proofs.try_new.Reads as reads
+
+module _ (κs : Lfts 4) where
+  abbrev Exit : Type 0
+  Exit = AtExit (endedOf 4 kinds.ps kinds.r) κs
+
+  -- T, Q and the workspace at exit
+  abbrev t : Exit → List Float
+  t s = s .1 .1 .1 .1 .1 .0 .now
+
+  abbrev q : Exit → List Float
+  q s = s .1 .1 .1 .1 .1 .1 .0 .now
+
+  abbrev work : Exit → List Float
+  work s = s .1 .1 .1 .1 .1 .1 .1 .0 .now
+
+  pub one-decomposition : (a : Dens κs kinds.ps) (r r' : Decomposed) (s s' : Exit) → reads.Post κs a r s → reads.Post κs a r' s' → (r ≡ r') × (t s ≡ t s') × (q s ≡ q s') × (work s ≡ work s')
+  one-decomposition a r r' s s' h k =
+      let e = one-answer _ _ _ (h .0) (k .0) in
+      (ap (λ o. o .answer) e, ap (λ o. o .pair .t) e, ap (λ o. o .pair .q) e, ap (λ o. o .work) e)
