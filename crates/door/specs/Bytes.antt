@@ -21,13 +21,13 @@ use Rattle.eigenvalues.specs.Plain.{plainChecks, plainRead}
 use Rattle.words.specs.Floats.{floatsOf, bytesOf}
 use Rattle.door.specs.Answer.{refusalNumber, checkedNumber, decomposedNumber}
 
--- n numbers, all +0: what the door itself lends the library for Q and for the workspace
+-- k numbers, all +0: what the door itself lends the library for Q and for the workspace
 unfoldable pub zeros : ℕ → List Float
 zeros k = table k (λ _. zero)
 
--- whether a slice holds k patterns
-abbrev pub holds : ℕ → List ℕ → Bool
-holds k b = eqb (length b) (8 * k)
+-- whether so many bytes are k patterns
+abbrev pub holds : ℕ → ℕ → Bool
+holds k bytes = eqb bytes (8 * k)
 
 -- ---- the decomposition
 
@@ -39,9 +39,20 @@ pub record Matrices : Type 0 where
 abbrev pub matrices : ℕ → List ℕ → List ℕ → Matrices
 matrices answer t q = record { answer = answer; t = t; q = q }
 
+-- 1 to 6; tn and qn are the lengths of what is lent for T and Q
+unfoldable pub matrixChecks : ℕ → List ℕ → Float → ℕ → Bool → ℕ → ℕ → Checked
+matrixChecks n m eps budget wanted tn qn =
+    argumentChecks (holds (n * n) (length m) && (holds (n * n) tn && (not wanted || holds (n * n) qn))) n eps budget (floatsOf m)
+
 -- T, and Q if it is wanted
 unfoldable pub writtenMatrices : Bool → Outcome → List ℕ → Matrices
 writtenMatrices wanted o q = matrices (decomposedNumber (o .answer)) (bytesOf (o .pair .t)) (cond wanted (bytesOf (o .pair .q)) q)
+
+-- after the run, accepted or refused
+unfoldable pub ranBytes : ℕ → List ℕ → Float → ℕ → Bool → List ℕ → Matrices
+ranBytes n m eps budget wanted q =
+    let run = ranOf wanted n eps budget (pair (floatsOf m) (zeros (n * n))) (zeros (2 * n)) in
+    writtenMatrices wanted (judged wanted n run (zeros (2 * n))) q
 
 unfoldable pub decomposedFrom : Checked → Matrices → List ℕ → List ℕ → Matrices
 decomposedFrom Passed written t q = written
@@ -49,10 +60,8 @@ decomposedFrom (Refused r) written t q = matrices (refusalNumber r) t q
 
 unfoldable pub decomposeBytes : ℕ → List ℕ → ℕ → ℕ → Bool → List ℕ → List ℕ → Matrices
 decomposeBytes n m tolerance budget wanted t q =
-    let lengths = holds (n * n) m && (holds (n * n) t && (not wanted || holds (n * n) q)) in
     let eps = ofBits binary64 tolerance in
-    let run = ranOf wanted n eps budget (pair (floatsOf m) (zeros (n * n))) (zeros (2 * n)) in
-    decomposedFrom (argumentChecks lengths n eps budget (floatsOf m)) (writtenMatrices wanted (judged wanted n run (zeros (2 * n))) q) t q
+    decomposedFrom (matrixChecks n m eps budget wanted (length t) (length q)) (ranBytes n m eps budget wanted q) t q
 
 -- ---- the readers
 
@@ -65,7 +74,7 @@ listed answer values = record { answer = answer; values = values }
 
 unfoldable pub realBytes : ℕ → List ℕ → List ℕ → Listed
 realBytes n t values =
-    let c = realChecks (holds (n * n) t && holds n values) n (floatsOf t) in
+    let c = realChecks (holds (n * n) (length t) && holds n (length values)) n (floatsOf t) in
     listed (checkedNumber c) (ifPassed c (bytesOf (diagonal n (floatsOf t))) values)
 
 pub record ComplexListed : Type 0 where
@@ -78,15 +87,19 @@ complexListed answer re im = record { answer = answer; re = re; im = im }
 
 unfoldable pub complexBytes : ℕ → List ℕ → List ℕ → List ℕ → ComplexListed
 complexBytes n t re im =
-    let c = complexChecks (holds (n * n) t && (holds n re && holds n im)) n (floatsOf t) in
-    let part = λ (f : ℕ → Float) (old : List ℕ). ifPassed c (bytesOf (table n f)) old in
-    complexListed (checkedNumber c) (part (λ k. eigenvalueAt n (floatsOf t) k .re) re) (part (λ k. eigenvalueAt n (floatsOf t) k .im) im)
+    let c = complexChecks (holds (n * n) (length t) && (holds n (length re) && holds n (length im))) n (floatsOf t) in
+    complexListed (checkedNumber c) (ifPassed c (bytesOf (table n (λ k. eigenvalueAt n (floatsOf t) k .re))) re)
+    (ifPassed c (bytesOf (table n (λ k. eigenvalueAt n (floatsOf t) k .im))) im)
 
 -- ---- the plain entry
+
+-- 1, 2, 3 and 6, which the readers check too before anything else; `lists` says whether every list of eigenvalues has its length
+unfoldable pub listChecks : ℕ → List ℕ → Bool → Checked
+listChecks n m lists = plainChecks (holds (n * n) (length m) && lists) n (floatsOf m)
 
 unfoldable pub plainFrom : Checked → Read → List ℕ → Listed
 plainFrom Passed r values = listed (checkedNumber (r .answer)) (ifPassed (r .answer) (bytesOf (r .values)) values)
 plainFrom (Refused r) _ values = listed (refusalNumber r) values
 
 unfoldable pub plainBytes : ℕ → List ℕ → List ℕ → Listed
-plainBytes n m values = plainFrom (plainChecks (holds (n * n) m && holds n values) n (floatsOf m)) (plainRead n (floatsOf m) (zeros (2 * n))) values
+plainBytes n m values = plainFrom (listChecks n m (holds n (length values))) (plainRead n (floatsOf m) (zeros (2 * n))) values

@@ -1,0 +1,9 @@
+-- `door::answer::pack` meets its contract. Assumes nothing.
+use native.Mathlib.Omega.{arith}
+use Rattle.door.specs.Answer.{packed}
+use Rattle.door.proofs.answer.pack.Statement.{statement}
+use Rattle.door.proofs.answer.pack.Tie as tie
+
+pub pack-spec : {M : Type 1} → statement M
+unfolding packed
+pack-spec = tie.close (tie.spec (λ c. omega arith) (λ c. omega arith) (λ c. omega arith) (λ c. omega arith) (λ c. omega arith))
