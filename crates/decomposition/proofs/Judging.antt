@@ -11,7 +11,7 @@ use Rattle.refusal.specs.declared.refusal.Checked.{Checked}
 use Rattle.pass.specs.Pair.{Pair, pair}
 use Rattle.schur.specs.declared.run.Ran.{Ran}
 use Rattle.schur.specs.Run.{Left, left, runFits, ranOf, runOf, workAfter}
-use Rattle.decomposition.specs.Decomposition.{Outcome, outcome, verdict, passesOf, Settlement, settled, judged}
+use Rattle.decomposition.specs.Decomposition.{outcome, verdict, passesOf, Settlement, settled, judged}
 
 -- the run on arguments that fit: t is a copy of m
 pub ran-there : (wanted : Bool) (n : ℕ) (eps : Float) (budget : ℕ) (t m q w : List Float) → t ≡ m → runFits wanted n (length m) (length q) (length w) ≡ true

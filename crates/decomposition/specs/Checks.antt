@@ -5,9 +5,9 @@ use mathlib.Core.List.{List}
 use lib.Dec.{eqb, leb, ltb}
 use lib.Ieee.{Float, le, lt}
 use Rattle.loops.specs.Constants.{zero, one}
-use Rattle.refusal.specs.declared.refusal.Refusal.the-variants.{OrderZero, OrderTooLarge, WrongLength, ToleranceOutside, BudgetOutside, EntryNotFinite, BudgetReached, ResultNotFinite, ShapeSpoiled}
+use Rattle.refusal.specs.declared.refusal.Refusal.the-variants.{OrderZero, OrderTooLarge, WrongLength, ToleranceOutside, BudgetOutside, EntryNotFinite, ResultNotFinite, ShapeSpoiled}
 use Rattle.refusal.specs.declared.refusal.Checked.{Checked}
-use Rattle.refusal.specs.declared.refusal.Checked.the-variants.{Passed, Refused}
+use Rattle.refusal.specs.declared.refusal.Checked.the-variants.{Passed}
 use Rattle.refusal.specs.Refusal.{refuse, refuseAt, _next_}
 use Rattle.refusal.specs.Search.{firstNotFinite, firstSpoiling}
 use Rattle.pass.specs.Pair.{Pair}

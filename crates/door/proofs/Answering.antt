@@ -7,16 +7,13 @@ use borrow.Author.Tests.{eq-eqb}
 use lib.Dec.{eqb}
 use lib.ListN.{length}
 use lib.Ieee.{Float, binary64, ofBits}
-use Rattle.loops.specs.Table.{table}
-use Rattle.matrix.proofs.Fitting.{both}
 use Rattle.pass.specs.Pair.{pair}
 use Rattle.refusal.specs.declared.refusal.Refusal.{Refusal}
 use Rattle.refusal.specs.declared.refusal.Checked.{Checked}
 use Rattle.refusal.specs.declared.refusal.Checked.the-variants.{Passed, Refused}
 use Rattle.refusal.specs.Refusal.{ifPassed}
 use Rattle.decomposition.specs.Decomposition.{Outcome, decompositionOf}
-use Rattle.eigenvalues.specs.Blocks.{eigenvalueAt}
-use Rattle.eigenvalues.specs.Readers.{realChecks, diagonal, read, realRead, complexChecks, complexly, complexRead}
+use Rattle.eigenvalues.specs.Readers.{read, realRead, complexly, complexRead}
 use Rattle.eigenvalues.specs.Plain.{plainChecks, plain, plainBegun, plainOf}
 use Rattle.eigenvalues.specs.Plain.{listed as listedFloats}
 use Rattle.words.specs.Floats.{floatsOf, bytesOf}

@@ -1,12 +1,10 @@
 -- Where the checks on the bytes have passed: the lengths, and that the library's own checks on the floats pass too. Where one has not: the same is answered
 -- by all the checks. Assumes nothing.
 use Prim.Native.Nat.{ℕ, _*_, _≤_}
-use mathlib.Core.Path.{_≡_, refl, sym, _∙_}
-use mathlib.Core.Bool.{Bool, true, false, cond, not, _&&_, _||_, or-true}
+use mathlib.Core.Path.{_≡_, sym, _∙_}
+use mathlib.Core.Bool.{Bool, true, not, _&&_, _||_, or-true}
 use mathlib.Core.List.{List}
-use native.Mathlib.Omega.{arith}
 use borrow.Author.Tests.{eqb-true, eq-eqb, ltb-false, not-false}
-use lib.Dec.{eqb}
 use lib.ListN.{length}
 use lib.Ieee.{Float}
 use Rattle.loops.specs.Place.{square-64}
@@ -15,11 +13,10 @@ use Rattle.pass.specs.Pair.{pair}
 use Rattle.schur.specs.Run.{ranOf}
 use Rattle.refusal.specs.declared.refusal.Refusal.{Refusal}
 use Rattle.refusal.specs.declared.refusal.Refusal.the-variants.{ShapeSpoiled}
-use Rattle.refusal.specs.declared.refusal.Checked.{Checked}
 use Rattle.refusal.specs.declared.refusal.Checked.the-variants.{Passed, Refused}
 use Rattle.refusal.specs.Refusal.{refuseAt, _next_}
 use Rattle.refusal.specs.Search.{firstSpoiling}
-use Rattle.refusal.proofs.Checking.{next-passed, refuse-passed}
+use Rattle.refusal.proofs.Checking.{next-refused, next-assoc, next-passed, refuse-passed}
 use Rattle.decomposition.specs.Checks.{lengthsFit}
 use Rattle.decomposition.specs.Decomposition.{judged, decompositionOf}
 use Rattle.decomposition.proofs.Passing.{Right, all-right, passed-judged}
@@ -98,16 +95,6 @@ list-fit n m lists h =
     let l = both (holds (n * n) (length m)) lists (not-false _ (refuse-passed _ _ (c .0))) in
     let order = ltb-false 64 n (refuse-passed _ _ (b .0)) in
     record { order = order; small = square-64 n order; matrix = eqb-true _ _ (l .0); room = l .1 }
-
--- checks one after another, grouped in another way
-next-assoc : (a b c : Checked) → ((a next b) next c) ≡ (a next (b next c))
-unfolding _next_
-next-assoc Passed b c = refl
-next-assoc (Refused r) b c = refl
-
-next-refused : {r : Refusal} (c d : Checked) → c ≡ Refused r → (c next d) ≡ Refused r
-unfolding _next_
-next-refused c d h = rw h
 
 -- what is refused first is refused by the reader
 readable-refused : {r : Refusal} (n : ℕ) (t : List ℕ) (lists : Bool) → listChecks n t lists ≡ Refused r → readable (holds (n * n) (length t) && lists) n (floatsOf t) ≡ Refused r

@@ -1,7 +1,7 @@
 -- Checks in turn: what is answered where one fails, and what is known where all have passed. Assumes nothing.
 use Prim.Native.Nat.{ℕ, _*_, _≤_}
 use mathlib.Core.Bool.{Bool, true, _&&_}
-use mathlib.Core.Path.{_≡_}
+use mathlib.Core.Path.{_≡_, sym, _∙_}
 use mathlib.Core.List.{List}
 use borrow.Author.Tests.{ltb-false, eqb-true, not-false}
 use lib.Dec.{eqb}
@@ -13,14 +13,13 @@ use Rattle.refusal.specs.declared.refusal.Refusal.{Refusal}
 use Rattle.refusal.specs.declared.refusal.Checked.{Checked}
 use Rattle.refusal.specs.declared.refusal.Checked.the-variants.{Passed, Refused}
 use Rattle.refusal.specs.Refusal.{_next_, ifPassed}
-use Rattle.refusal.proofs.Checking.{next-passed, refuse-passed}
+use Rattle.refusal.proofs.Checking.{next-refused, next-passed, refuse-passed}
 use Rattle.eigenvalues.specs.Blocks.{eigenvalueAt}
 use Rattle.eigenvalues.specs.Readers.{readable, realChecks, diagonal, read, realRead, complexChecks, complexly, complexRead}
 
 -- of two checks in turn the first decides where it refuses
 pub next-first : {r : Refusal} (c d : Checked) → c ≡ Refused r → c ≡ (c next d)
-unfolding _next_
-next-first c d h = rw h
+next-first c d h = h ∙ sym (next-refused c d h)
 
 -- ---- what both readers check
 

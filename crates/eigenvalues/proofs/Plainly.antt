@@ -1,7 +1,7 @@
 -- The plain entry, told of the pieces that the code has in hand. Assumes nothing.
 use Prim.Native.Nat.{ℕ, _*_, _≤_}
 use mathlib.Core.Bool.{Bool, true, false, not, _&&_}
-use mathlib.Core.Path.{_≡_, refl, sym, ap, _∙_}
+use mathlib.Core.Path.{_≡_, refl, ap}
 use mathlib.Core.List.{List, [], _∷_}
 use native.Mathlib.Omega.{arith}
 use borrow.Author.Tests.{eq-eqb, ne-eqb, eqb-true, eqb-false, ltb-false, not-false}
@@ -30,7 +30,7 @@ use Rattle.refusal.proofs.Checking.{next-passed, refuse-passed, refuseAt-passed
 use Rattle.decomposition.specs.declared.Decomposed.the-variants.{Accepted, Declined}
 use Rattle.decomposition.specs.Checks.{toleranceFits, budgetFits, lengthsFit}
 use Rattle.decomposition.specs.Decomposition.{Outcome, judged, decompositionOf}
-use Rattle.decomposition.proofs.Passing.{Right, passed-judged}
+use Rattle.decomposition.proofs.Passing.{passed-judged}
 use Rattle.eigenvalues.specs.Readers.{anyPaired, diagonal, Read, read}
 use Rattle.eigenvalues.specs.Plain.{plainChecks, bothOf, plainTwo, plainBudget, complexChecked, plainRun, plainRead, listed, plain, plainBegun, plainOf}
 use Rattle.eigenvalues.proofs.Diagonal.{Sought, sought-none, sought-more, place-here, place-none}

@@ -20,7 +20,7 @@ use Rattle.refusal.specs.Search.{firstRow, firstCol, firstPlace, firstOnDiagona
 use Rattle.decomposition.specs.Known.{openedDecomposition}
 use Rattle.eigenvalues.specs.Blocks.{paired, pairOf, answerAt, notComplex, upper, lower, follows, answerBefore, eigenvalueAt}
 use Rattle.eigenvalues.specs.Readers.{Read, ComplexRead, readable, anyPaired, realChecks, diagonal, realRead, notFiniteAt, complexChecks, complexRead}
-use Rattle.eigenvalues.specs.Plain.{Plain, plainChecks, plainTwo, complexChecked, plainRun, plainRead, listed, plainBegun, plainOf}
+use Rattle.eigenvalues.specs.Plain.{plainChecks, plainTwo, complexChecked, plainRun, plainRead, listed, plainBegun, plainOf}
 
 -- every definition that a case computes with
 unfoldable pub openedReaders : Unit {0}

@@ -1,9 +1,8 @@
 -- The first of the numbers below n that a test names, and n itself where it names none: a search that a loop makes from 0 on.
 -- What is left to search at k is `firstFrom test n k`, so a loop's invariant says that this equals the whole search.
 use mathlib.Core.Path.{_≡_, refl, sym, ap, _∙_}
-use mathlib.Core.Bool.{Bool, true, false, false≢true}
+use mathlib.Core.Bool.{Bool, true, false}
 use Prim.Native.Nat.{ℕ, zero, suc, _+_, _-_, _<_, _≤_}
-use native.Mathlib.Numerals.{add-one}
 use native.Mathlib.Decide.{decLt}
 use native.Mathlib.Omega.{arith}
 use Rattle.loops.specs.Until.{until, until-out, until-stop, until-turn}

@@ -21,6 +21,17 @@ unfolding _next_
 next-passed Passed d h = (refl, h)
 next-passed (Refused r) d h = absurd (refused-not-passed r h)
 
+-- the first that refuses decides
+pub next-refused : {r : Refusal} (c d : Checked) → c ≡ Refused r → (c next d) ≡ Refused r
+unfolding _next_
+next-refused c d h = rw h
+
+-- grouped in another way
+pub next-assoc : (a b c : Checked) → ((a next b) next c) ≡ (a next (b next c))
+unfolding _next_
+next-assoc Passed b c = refl
+next-assoc (Refused r) b c = refl
+
 pub next-on : (c d : Checked) → c ≡ Passed → (c next d) ≡ d
 unfolding _next_
 next-on c d h = rw h

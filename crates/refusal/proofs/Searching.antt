@@ -7,7 +7,6 @@ use native.Mathlib.Omega.{arith}
 use borrow.Author.Tests.{lt-ltb, le-ltb}
 use lib.Dec.{ltb}
 use Rattle.loops.specs.First.{firstFrom, first-here, first-on, first-none, first-same}
-use Rattle.refusal.specs.declared.search.Search.{Search}
 use Rattle.refusal.specs.declared.search.Search.the-variants.{At, Nowhere}
 use Rattle.refusal.specs.Refusal.{at}
 use Rattle.refusal.specs.Search.{firstRow, firstCol, firstPlace}

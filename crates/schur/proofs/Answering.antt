@@ -7,7 +7,7 @@ use borrow.Author.Tests.{eq-eqb, ne-eqb, leb-true, eqb-true}
 use lib.Dec.{eqb}
 use lib.Ieee.{Float}
 use Rattle.matrix.specs.Vectors.{scaled}
-use Rattle.matrix.proofs.Fitting.{Fits, fits, both}
+use Rattle.matrix.proofs.Fitting.{fits, both}
 use Rattle.schur.specs.declared.run.State.{State}
 use Rattle.schur.specs.declared.run.Ran.the-variants.{Ended, BudgetReached}
 use Rattle.pass.specs.Pair.{Pair, pair}

@@ -1,5 +1,4 @@
 -- `decomposition::judge` meets its contract. Assumes nothing.
-use mathlib.Core.Path.{sym, ap, _∙_}
 use borrow.Author.Needs.{needs}
 use Rattle.decomposition.specs.Decomposition.{verdict}
 use Rattle.decomposition.proofs.judge.Statement.{statement}

@@ -1,7 +1,6 @@
 -- `decomposition::q_fits` meets its contract. Assumes nothing.
 use native.Mathlib.Omega.{arith}
 use Rattle.loops.specs.Place.{square-64}
-use borrow.Author.Tests.{not-true, not-false}
 use Rattle.decomposition.proofs.q_fits.Statement.{statement}
 use Rattle.decomposition.proofs.q_fits.Tie as tie
 

@@ -1,6 +1,6 @@
 -- `decomposition::settle` meets its contract. Assumes nothing.
 use native.Mathlib.Omega.{arith}
-use mathlib.Core.Path.{sym, ap, _∙_}
+use mathlib.Core.Path.{ap}
 use borrow.Author.Needs.{needs}
 use Rattle.decomposition.specs.declared.Decomposed.the-variants.{Declined}
 use Rattle.decomposition.specs.Decomposition.{settlement, settled}

@@ -1,7 +1,6 @@
 -- `door::manulsek_complex_eigenvalues` meets its contract. Assumes nothing.
 use native.Mathlib.Omega.{arith}
-use mathlib.Core.Path.{_≡_, sym, ap, _∙_}
-use Rattle.door.specs.Bytes.{listChecks}
+use mathlib.Core.Path.{sym, _∙_}
 use Rattle.door.proofs.Answering.{complex-kept}
 use Rattle.door.proofs.manulsek_complex_eigenvalues.Statement.{statement}
 use Rattle.door.proofs.manulsek_complex_eigenvalues.Tie as tie

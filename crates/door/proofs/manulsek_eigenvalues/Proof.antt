@@ -1,7 +1,5 @@
 -- `door::manulsek_eigenvalues` meets its contract. Assumes nothing.
 use native.Mathlib.Omega.{arith}
-use mathlib.Core.Path.{_≡_, sym, ap, _∙_}
-use Rattle.door.specs.Bytes.{listChecks}
 use Rattle.door.proofs.Answering.{real-kept}
 use Rattle.door.proofs.manulsek_eigenvalues.Statement.{statement}
 use Rattle.door.proofs.manulsek_eigenvalues.Tie as tie

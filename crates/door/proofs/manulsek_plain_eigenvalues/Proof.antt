@@ -1,6 +1,5 @@
 -- `door::manulsek_plain_eigenvalues` meets its contract. Assumes nothing.
 use native.Mathlib.Omega.{arith}
-use mathlib.Core.Path.{_≡_}
 use Rattle.door.proofs.Answering.{plain-kept}
 use Rattle.door.proofs.manulsek_plain_eigenvalues.Statement.{statement}
 use Rattle.door.proofs.manulsek_plain_eigenvalues.Tie as tie

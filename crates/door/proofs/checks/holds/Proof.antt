@@ -2,8 +2,6 @@
 use native.Mathlib.Omega.{arith}
 use Prim.Native.Nat.{_*_}
 use borrow.Author.Tests.{ne-eqb}
-use mathlib.Core.Path.{_≡_}
-use lib.Dec.{eqb}
 use Rattle.door.proofs.Floats.{eighths}
 use Rattle.door.proofs.checks.holds.Statement.{statement}
 use Rattle.door.proofs.checks.holds.Tie as tie

@@ -1,6 +1,5 @@
 -- `door::decompose::matrices_fit` meets its contract. Assumes nothing.
 use native.Mathlib.Omega.{arith}
-use borrow.Author.Tests.{not-true, not-false}
 use Rattle.matrix.proofs.Fitting.{inside, outside}
 use Rattle.door.proofs.decompose.matrices_fit.Statement.{statement}
 use Rattle.door.proofs.decompose.matrices_fit.Tie as tie

@@ -1,7 +1,6 @@
 -- `door::decompose::on_floats` meets its contract. Assumes nothing.
 use native.Mathlib.Omega.{arith}
 use mathlib.Core.Path.{_∙_}
-use Prim.Native.Nat.{_*_}
 use lib.ListN.{length}
 use Rattle.door.proofs.Floats.{filled-zeros, decoded, encoded}
 use Rattle.door.proofs.Passing.{MatrixFit, matrix-fit}

@@ -1,6 +1,5 @@
 -- `door::decompose::run` meets its contract. Assumes nothing.
 use native.Mathlib.Omega.{arith}
-use Prim.Native.Nat.{_≤_}
 use lib.ListN.{length}
 use native.Mathlib.Nat.{mul-le-mul}
 use Rattle.door.proofs.Passing.{MatrixFit, matrix-fit}

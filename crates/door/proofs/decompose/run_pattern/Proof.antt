@@ -1,6 +1,5 @@
 -- `door::decompose::run_pattern` meets its contract. Assumes nothing.
 use native.Mathlib.Omega.{arith}
-use mathlib.Core.Path.{_≡_, sym, ap, _∙_}
 use Rattle.door.proofs.decompose.run_pattern.Statement.{statement}
 use Rattle.door.proofs.decompose.run_pattern.Tie as tie
 

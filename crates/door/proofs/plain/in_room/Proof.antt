@@ -1,6 +1,6 @@
 -- `door::plain::in_room` meets its contract. Assumes nothing.
 use native.Mathlib.Omega.{arith}
-use mathlib.Core.Path.{_≡_, sym}
+use mathlib.Core.Path.{sym}
 use lib.Seq.{length-take-le}
 use Rattle.door.proofs.plain.in_room.Statement.{statement}
 use Rattle.door.proofs.plain.in_room.Tie as tie

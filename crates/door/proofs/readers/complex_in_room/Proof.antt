@@ -1,6 +1,6 @@
 -- `door::readers::complex_in_room` meets its contract. Assumes nothing.
 use native.Mathlib.Omega.{arith}
-use mathlib.Core.Path.{_≡_, sym}
+use mathlib.Core.Path.{sym}
 use lib.Seq.{length-take-le}
 use Rattle.door.proofs.readers.complex_in_room.Statement.{statement}
 use Rattle.door.proofs.readers.complex_in_room.Tie as tie

@@ -1,6 +1,5 @@
 -- `door::readers::real_on_floats` meets its contract. Assumes nothing.
 use native.Mathlib.Omega.{arith}
-use mathlib.Core.Path.{_≡_}
 use Prim.Native.Nat.{_*_}
 use borrow.Author.Tests.{eqb-true}
 use lib.ListN.{length}

@@ -1,6 +1,6 @@
 -- `eigenvalues::plain::plain_eigenvalues` meets its contract. Assumes nothing.
 use native.Mathlib.Omega.{arith}
-use mathlib.Core.Path.{_≡_, sym, ap, _∙_}
+use mathlib.Core.Path.{sym, _∙_}
 use borrow.Author.Needs.{needs}
 use lib.ListN.{length}
 use Rattle.eigenvalues.specs.Readers.{read}

@@ -1,8 +1,6 @@
 -- `eigenvalues::plain::plain_in` meets its contract. Assumes nothing.
 use native.Mathlib.Omega.{arith}
-use Prim.Native.Nat.{_*_, _≤_}
 use mathlib.Core.Path.{sym}
-use borrow.Author.Needs.{needs}
 use lib.Seq.{length-take-le}
 use Rattle.loops.specs.Place.{square-64}
 use Rattle.eigenvalues.proofs.plain.plain_in.Statement.{statement}

@@ -1,6 +1,6 @@
 -- `eigenvalues::plain::plain_run` meets its contract. Assumes nothing.
 use native.Mathlib.Omega.{arith}
-use mathlib.Core.Path.{_≡_, sym, ap, _∙_}
+use mathlib.Core.Path.{sym, ap, _∙_}
 use borrow.Author.Needs.{needs}
 use Rattle.decomposition.proofs.Passing.{judged-work}
 use Rattle.eigenvalues.proofs.Plainly.{plain-judged, run-refused, run-read}

@@ -1,8 +1,6 @@
 -- `eigenvalues::plain::plain_two` meets its contract. Assumes nothing.
 use native.Mathlib.Omega.{arith}
-use mathlib.Core.Path.{_≡_, sym, ap, _∙_}
 use borrow.Author.Needs.{needs}
-use Rattle.pass.specs.Block.{eigvalsOf}
 use Rattle.refusal.specs.Refusal.{ifPassed}
 use Rattle.eigenvalues.specs.Plain.{plainTwo, listed}
 use Rattle.eigenvalues.proofs.plain.plain_two.Statement.{statement}

@@ -1,11 +1,7 @@
 -- `eigenvalues::plain::two_values` meets its contract. Assumes nothing.
 use native.Mathlib.Omega.{arith}
-use mathlib.Core.Bool.{not}
-use mathlib.Core.Path.{_≡_, sym, ap, _∙_}
 use borrow.Author.Needs.{needs}
-use borrow.Author.Tests.{not-true, not-false}
 use lib.ListN.{length-set}
-use Rattle.scalar.specs.Class.{isFinite}
 use Rattle.matrix.proofs.Fitting.{inside, outside}
 use Rattle.eigenvalues.proofs.Plainly.{two-first, two-second, two-both, two-put}
 use Rattle.eigenvalues.proofs.plain.two_values.Statement.{statement}

@@ -1,7 +1,7 @@
 -- `refusal::search::row_far_below` meets its contract. Assumes nothing.
 use native.Mathlib.Omega.{arith}
 use Prim.Native.Nat.{_+_, _-_, _≤_}
-use mathlib.Core.Bool.{not, true, false}
+use mathlib.Core.Bool.{not}
 use mathlib.Core.Path.{_≡_, refl, sym, ap, _∙_}
 use Rattle.loops.specs.First.{firstFrom, first-here, first-on, first-none}
 use Rattle.loops.specs.Place.{Placed, placed}

@@ -1,6 +1,5 @@
 -- `schur::run::begin` meets its contract. Assumes nothing.
 use native.Mathlib.Omega.{arith}
-use mathlib.Core.Path.{_≡_, sym, ap, _∙_}
 use Rattle.schur.specs.Run.{after, opened}
 use Rattle.schur.proofs.run.begin.Statement.{statement}
 use Rattle.schur.proofs.run.begin.Tie as tie

@@ -1,6 +1,6 @@
 -- `schur::run::do_decompose` meets its contract. Assumes nothing.
 use native.Mathlib.Omega.{arith}
-use mathlib.Core.Path.{_≡_, sym, ap, _∙_}
+use mathlib.Core.Path.{_∙_}
 use lib.ListN.{length}
 use Rattle.loops.specs.Constants.{zero}
 use Rattle.matrix.proofs.Each.{filled-same}

@@ -1,6 +1,5 @@
 -- `schur::run::q_fits` meets its contract. Assumes nothing.
 use native.Mathlib.Omega.{arith}
-use mathlib.Core.Path.{_≡_}
 use Rattle.loops.specs.Place.{square-64}
 use Rattle.schur.proofs.run.q_fits.Statement.{statement}
 use Rattle.schur.proofs.run.q_fits.Tie as tie

@@ -7,7 +7,7 @@ use borrow.Author.Tests.{eq-eqb, ne-eqb}
 use lib.ListN.{length}
 use Rattle.loops.specs.Until.{until-out, until-stop, until-turn}
 use Rattle.pass.specs.Pair.{pair}
-use Rattle.schur.specs.Run.{running, closed, turnOf, runFrom}
+use Rattle.schur.specs.Run.{running, closed, runFrom}
 use Rattle.schur.proofs.run.run_from.Statement.{statement}
 use Rattle.schur.proofs.run.run_from.Tie as tie
 

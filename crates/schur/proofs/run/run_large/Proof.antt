@@ -1,9 +1,8 @@
 -- `schur::run::run_large` meets its contract. Assumes nothing.
 use native.Mathlib.Omega.{arith}
-use mathlib.Core.Path.{_≡_, sym, ap, _∙_}
-use Rattle.matrix.specs.Vectors.{largest, scaled}
+use mathlib.Core.Path.{_≡_, ap, _∙_}
 use Rattle.pass.specs.Pair.{pair}
-use Rattle.schur.specs.Run.{Running, running, runFrom, opened, left, answered}
+use Rattle.schur.specs.Run.{running, runFrom, opened}
 use Rattle.schur.proofs.Answering.{answered-reached, answered-ended}
 use Rattle.schur.proofs.run.run_large.Statement.{statement}
 use Rattle.schur.proofs.run.run_large.Tie as tie
