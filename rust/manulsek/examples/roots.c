@@ -1,7 +1,7 @@
 /* The roots of a polynomial, from the eigenvalues of its companion matrix. From the repository's root:
  *
  *     rt staticlib door
- *     cc -I rust/manulsek/include rust/manulsek/examples/roots.c target/staticlib/libdoor.a -lm -o roots
+ *     cc -I rust/manulsek/include rust/manulsek/examples/roots.c target/staticlib/libdoor.a -o roots
  *     ./roots -8 12 -6      # x^3 - 6x^2 + 12x - 8, the constant first; the leading 1 is left out
  *
  * Without numbers it takes x^3 - 2x^2 + x - 2, whose roots are 2, i and -i. */

@@ -1,16 +1,16 @@
 /* Manulsek: the real Schur decomposition of nalgebra 0.35.0, proved, for C99 and C++ on x86-64.
  *
  * The functions are those of the static library that `rt staticlib door` writes,
- * target/staticlib/libdoor.a. A program needs the C library and -lm besides:
+ * target/staticlib/libdoor.a. A program needs the C library besides:
  *
- *     cc -I rust/manulsek/include roots.c target/staticlib/libdoor.a -lm
+ *     cc -I rust/manulsek/include roots.c target/staticlib/libdoor.a
  *
  * A matrix of order n, 1 to 64, is n * n doubles, column by column: row r, column c stands at r + c * n.
  * Rows and columns count from 0. Memory is lent as bytes, eight to a double, the lowest first, which is
  * how a double stands in memory on x86-64: lend (uint8_t *)doubles. Lengths are in bytes, and have to be
  * 8 * n * n for a matrix and 8 * n for a list. No address has to be a multiple of anything. Memory that
  * is written must overlap no other. The functions keep nothing, and may be called from many threads;
- * each needs some hundred KiB of stack.
+ * each needs up to 104 KiB of stack.
  *
  * Every function takes every input and ends. It answers one number: below 2^32 the call was accepted;
  * else it was refused, and the answer is number * 2^32 + row * 2^16 + col. The four helpers at the end

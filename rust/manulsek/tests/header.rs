@@ -131,7 +131,7 @@ fn the_example_in_c_runs() {
                 "examples/roots.c",
                 "../../target/staticlib/libdoor.a",
             ])
-            .args(["-lm", "-o"])
+            .arg("-o")
             .arg(&program));
         let output = run(Command::new(program).args(coefficients.map(|x| x.to_string())));
         let said = String::from_utf8(output.stdout).unwrap();
