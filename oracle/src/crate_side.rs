@@ -232,6 +232,12 @@ mod tests {
         let steep = rows([[0.0; 3], [p(-521), 1.0, -1.0], [0.0, p(-47), p(-506)]]);
         let (t, _) = run(&steep, 0.0, 10).unwrap();
         assert_ne!(t[2], 0.0);
+        // The plain entry has no bound: on a cycle of order 6 it would still be at it.
+        let cycle = DMatrix::from_fn(6, 6, |i, j| ((j + 1) % 6 == i) as u8 as f64);
+        assert!(run(&cycle, TOLERANCE, 10_000).is_none());
+        // At order 2 it hands out what is not finite.
+        let values = plain_of_two(&[0.0, p(700), p(700), 0.0]).unwrap();
+        assert_eq!(values, [f64::INFINITY, f64::NEG_INFINITY]);
         // A standing block whose discriminant is infinity less infinity after the unscaling.
         let large = rows([[5e299, -1e300, 0.0], [1e300, -5e299, 0.0], [0.0; 3]]);
         let pair = Schur::new(large).complex_eigenvalues();

@@ -210,7 +210,7 @@ impl Bases {
                 bases.keep(Call::new(Entry::Plain, *order, entries), &mut judge);
             }
         }
-        // On a cycle the passes stand still.
+        // On the cycle of order 6 the passes stand still; the others end.
         for order in 3..7 {
             let entry = |place: usize| (place % order == (place / order + 1) % order) as u8;
             let cycle: Vec<f64> = (0..order * order)

@@ -6,7 +6,9 @@ use super::say::{numbers, told};
 
 pub fn answer(name: &str, wholes: &[usize]) -> Option<String> {
     match *wholes {
-        [len, other_len, seed, other] => of_two(name, &mut many(len, seed)?, &many(other_len, other)?),
+        [len, other_len, seed, other] => {
+            of_two(name, &mut many(len, seed)?, &many(other_len, other)?)
+        }
         [len, seed] => of_one(name, &mut many(len, seed)?, drawn(seed, len)),
         _ => None,
     }
