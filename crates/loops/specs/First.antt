@@ -5,6 +5,8 @@ use mathlib.Core.Bool.{Bool, true, false}
 use Prim.Native.Nat.{ℕ, zero, suc, _+_, _-_, _<_, _≤_}
 use native.Mathlib.Decide.{decLt}
 use native.Mathlib.Omega.{arith}
+use borrow.Author.Tests.{ltb-false}
+use lib.Dec.{ltb}
 use Rattle.loops.specs.Until.{until, until-out, until-stop, until-turn}
 
 -- from k on
@@ -13,6 +15,10 @@ firstFrom test n k = until test (λ i. i + 1) (n - k) k
 
 abbrev pub first : (ℕ → Bool) → ℕ → ℕ
 first test n = firstFrom test n 0
+
+-- whether the test names some number from a to below b
+abbrev pub some : (ℕ → Bool) → ℕ → ℕ → Bool
+some test a b = ltb (firstFrom test b a) b
 
 -- ---- a loop: here it is; not here; there is none
 
@@ -77,3 +83,17 @@ first-same test other n k l same =
     (λ k l h. sym (first-here other n k (sym (same k l) ∙ h)))
     (λ k m l h r. r ∙ sym (first-on other n k l (sym (same k l) ∙ h)))
     (sym (first-none other n n (omega arith))) (n - k) k (omega arith)
+
+-- ---- whether there is one
+
+-- it names none, and so not i
+pub some-none : (test : ℕ → Bool) (a b i : ℕ) → some test a b ≡ false → a ≤ i → i < b → test i ≡ false
+some-none test a b i h l m = first-others test b a (omega arith) i l (omega (arith, ltb-false (firstFrom test b a) b h))
+
+-- it names i, and so some
+pub some-named : (test : ℕ → Bool) (a b i : ℕ) → a ≤ i → i < b → test i ≡ true → some test a b ≡ true
+some-named test a b i l m h = go (some test a b) refl
+  where
+    go : (d : Bool) → some test a b ≡ d → d ≡ true
+    go true e = refl
+    go false e = sym (some-none test a b i e l m) ∙ h

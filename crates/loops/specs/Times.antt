@@ -1,8 +1,8 @@
 -- A counted loop as a function. `times f n a` is a after turns 0, 1, .., n - 1, where turn i takes the state x to f i x.
 -- `range f a b s` is `for i in a..b`: s after turns a, a + 1, .., b - 1, and s itself where b ≤ a.
 -- A loop's invariant says that the state is `times f i` (or `range f a i`) of the state at the start: `-none` begins it, `-more` keeps it,
--- `-done` ends it. What a loop does to all it runs over is `-hold`; what it leaves alone, `-frame`; what one turn put somewhere, `-at`. Two
--- portions one after the other are `-portions`.
+-- `-done` ends it. What a loop does to all it runs over is `-hold`, and `-walk` where that depends on the turn; what it leaves alone, `-frame`; what one
+-- turn put somewhere, `-at`. Two portions one after the other are `-portions`.
 use mathlib.Core.Path.{_≡_, refl, sym, ap, _∙_}
 use mathlib.Core.Logic.{_≢_}
 use mathlib.Core.List.{List}
@@ -90,6 +90,16 @@ range-done f a b j s h k l = let e : j - a ≡ b - a = omega arith in rw e
 pub range-hold : {A : Type 0} (P : A → Type 0) (f : ℕ → A → A) (a b : ℕ) (s : A) → ((i : ℕ) (x : A) → a ≤ i → i < b → P x → P (f i x)) → P s → P (range f a b s)
 unfolding range
 range-hold P f a b s keep h = times-hold P (λ k. f (a + k)) (b - a) s (λ k x l. keep (a + k) x (omega arith) (omega arith)) h
+
+-- what each turn takes from i to i + 1, the whole takes from a to b
+pub range-walk : {A : Type 0} (P : ℕ → A → Type 0) (f : ℕ → A → A) (a b : ℕ) (s : A) → a ≤ b → ((i : ℕ) → a ≤ i → i < b → P i (range f a i s) → P (i + 1) (f i (range f a i s))) → P a s → P b (range f a b s)
+range-walk P f a b s l step h = go (b - a) b (omega arith) (omega arith)
+  where
+    go : (k i : ℕ) → i ≡ a + k → i ≤ b → P i (range f a i s)
+    go zero i e m = let q : i ≡ a = omega arith in rw (q, range-none f a s) h
+    go (suc k) i e m =
+        let q : i ≡ a + k + 1 = omega arith in
+        rw (q, range-more f a (a + k) s (omega arith)) (step (a + k) (omega arith) (omega arith) (go k (a + k) refl (omega arith)))
 
 pub range-length : {A : Type 0} (f : ℕ → List A → List A) (a b : ℕ) (t : List A) → ((i : ℕ) (s : List A) → length (f i s) ≡ length s) → length (range f a b t) ≡ length t
 unfolding range

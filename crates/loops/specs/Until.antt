@@ -74,3 +74,18 @@ until-count size done f (suc n) a grow = go (done a) (until-count size done f n 
     go : (b : Bool) → size (until done f n (f a)) ≤ size (f a) + n → size (f a) ≤ size a + 1 → size (elim b [ true ↦ a | false ↦ until done f n (f a) ]) ≤ size a + suc n
     go true h k = omega arith
     go false h k = omega arith
+
+-- What holds after m turns, told turn by turn: the next turn is taken where it is not done, and else all stays as it is.
+pub until-walk : {A : Type 0} (P : ℕ → A → Type 0) (done : A → Bool) (f : A → A) (n : ℕ) (a : A)
+    → ((m : ℕ) → m < n → done (until done f m a) ≡ true → P m (until done f m a) → P (m + 1) (until done f m a))
+    → ((m : ℕ) → m < n → done (until done f m a) ≡ false → P m (until done f m a) → P (m + 1) (f (until done f m a)))
+    → P 0 a → P n (until done f n a)
+until-walk P done f n a stay on h = go n (omega arith)
+  where
+    next : (m : ℕ) (b : Bool) → m < n → done (until done f m a) ≡ b → P m (until done f m a) → P (m + 1) (until done f (m + 1) a)
+    next m true l e k = rw (until-portions done f m 1 a, until-stop done f 1 (until done f m a) e) (stay m l e k)
+    next m false l e k = rw (until-portions done f m 1 a, step done f 0 (until done f m a) e, until-out done f (f (until done f m a))) (on m l e k)
+
+    go : (m : ℕ) → m ≤ n → P m (until done f m a)
+    go zero l = rw (until-out done f a) h
+    go (suc m) l = let e : suc m ≡ m + 1 = omega arith in rw e (next m (done (until done f m a)) (omega arith) refl (go m (omega arith)))
