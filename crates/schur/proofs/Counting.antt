@@ -34,7 +34,7 @@ turn-counts wanted n eps r =
     cond-hold (λ (x : Running). x .state .passes ≤ r .state .passes + 1) (leb (r .state .window .end) (r .state .window .start + 1)) _ _
     (λ _. turnTwo-counts wanted n eps (r .state) (r .pair)) (turnMore-counts wanted n eps (r .state) (r .pair))
 
-opened-none : (wanted : Bool) (n : ℕ) (eps : Float) (w : List Float) (p : Pair) → opened wanted n eps w p .state .passes ≡ 0
+pub opened-none : (wanted : Bool) (n : ℕ) (eps : Float) (w : List Float) (p : Pair) → opened wanted n eps w p .state .passes ≡ 0
 unfolding opened after
 opened-none wanted n eps w p = refl
 

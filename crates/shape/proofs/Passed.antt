@@ -1,0 +1,139 @@
+-- A pass in which no axis vanished: the bulge is made at the window's start, moves on step by step and is swept at its end, and no row below the window is
+-- touched. So T is zero two or more places below its diagonal again, and what was settled below the window still is. Assumes nothing.
+use Prim.Native.Nat.{ℕ, zero, suc, _+_, _-_, _*_, _<_, _≤_, min}
+use mathlib.Core.Bool.{Bool, true, false}
+use mathlib.Core.Path.{_≡_, refl, sym, ap, _∙_, subst}
+use mathlib.Core.List.{List}
+use native.Mathlib.Nat.{add-zero}
+use native.Mathlib.Omega.{arith}
+use borrow.Author.Tests.{le-leb, lt-leb, eq-eqb, ne-eqb}
+use lib.Dec.{leb}
+use lib.ListN.{length}
+use lib.Ieee.{Float}
+use Rattle.loops.specs.First.{some-none}
+use Rattle.loops.specs.Place.{place}
+use Rattle.loops.specs.Rounded.{_!_}
+use Rattle.loops.specs.Times.{range, range-walk}
+use Rattle.scalar.specs.Class.{isZero}
+use Rattle.matrix.specs.Fits.{blockFits}
+use Rattle.matrix.specs.Vectors.{two, three}
+use Rattle.matrix.specs.declared.vector.Vector3.{Vector3}
+use Rattle.matrix.proofs.Fitting.{fitting}
+use Rattle.window.specs.declared.Window.{Window}
+use Rattle.pass.specs.Pair.{Pair}
+use Rattle.pass.specs.Pass.{firstColumn, bulge, bulgeEnd, columnAt, stepAt, chased, closing, passHere, passOf}
+use Rattle.schur.specs.declared.run.State.{State}
+use Rattle.schur.specs.Run.{after, turnMore}
+use Rattle.shape.specs.Vanished.{tooSmall, passTo, axisColumn, passVanished}
+use Rattle.shape.proofs.Zeros.{either-keeps}
+use Rattle.shape.proofs.Delimited.{Settled, Open, delimit-sound}
+use Rattle.shape.proofs.Split.{SoundAt}
+use Rattle.shape.proofs.Bulge.{Step, Chased, step-chased}
+
+-- ---- a step
+
+-- past the first step the column is the bulge's
+bulge-holds : (first : Vector3) (n s k : ℕ) (t : List Float) → s < k → (m : ℕ) → m < 3 → three (columnAt first n s k t) ! m ≡ t ! place n (k + m) (k - 1)
+unfolding columnAt bulge
+bulge-holds first n s k t l zero h = rw (lt-leb k s l, add-zero)
+bulge-holds first n s k t l (suc zero) h = rw (lt-leb k s l)
+bulge-holds first n s k t l (suc (suc zero)) h = rw (lt-leb k s l)
+bulge-holds first n s k t l (suc (suc (suc m))) h = absurd (omega arith)
+
+end-holds : (n k : ℕ) (t : List Float) (m : ℕ) → m < 2 → two (bulgeEnd n k t) ! m ≡ t ! place n (k + m) (k - 1)
+unfolding bulgeEnd
+end-holds n k t zero h = rw add-zero
+end-holds n k t (suc zero) h = refl
+end-holds n k t (suc (suc m)) h = absurd (omega arith)
+
+-- ---- the pass
+
+module _ (wanted : Bool) (n : ℕ) (w : Window) (p : Pair) (o : Open n w (p .t)) (three-rows : w .start + 2 ≤ w .end) (none : passVanished wanted n w p ≡ false) where
+  abbrev s : ℕ
+  s = w .start
+
+  abbrev e : ℕ
+  e = w .end
+
+  -- the axis of the step at k did not vanish
+  no-axis : (k : ℕ) → s ≤ k → k < e → tooSmall (axisColumn wanted n w p k) ≡ false
+  unfolding passVanished
+  no-axis k a b = some-none (λ k. tooSmall (axisColumn wanted n w p k)) s e k none a b
+
+  before : ℕ → Pair
+  before = passTo wanted n w p
+
+  -- the step at k by three numbers
+  chased-on : (k : ℕ) → s ≤ k → k < e - 1 → Chased n s e k (p .t) (before k .t) → Chased n s e (k + 1) (p .t) (chased wanted n (firstColumn n s e (p .t)) s e k (before k) .t)
+  unfolding chased before axisColumn
+  chased-on k a b z =
+      let r = o .room in
+      let far : axisColumn wanted n w p k ≡ three (columnAt (firstColumn n s e (p .t)) n s k (before k .t)) = rw (ne-eqb k (e - 1) (λ q. omega arith)) in
+      step-chased wanted n s e k (min (k + 4) (e + 1)) (three (columnAt (firstColumn n s e (p .t)) n s k (before k .t))) (p .t) (before k)
+      (record {
+        size = z .size;
+        begun = a;
+        room = r;
+        some = omega arith;
+        short = omega arith;
+        fits = omega arith;
+        covers = λ i u v. omega arith;
+        near = omega arith;
+        within = omega arith;
+        holds = λ l m h. bulge-holds (firstColumn n s e (p .t)) n s k (before k .t) l m h;
+      })
+      (rw far at (no-axis k a (omega arith))) z
+
+  -- the last step, by two
+  closed-off : Chased n s e (e - 1) (p .t) (before (e - 1) .t) → Chased n s e (e - 1 + 1) (p .t) (closing wanted n s e (before (e - 1)) .t)
+  unfolding closing before axisColumn
+  closed-off z =
+      let r = o .room in
+      let last : axisColumn wanted n w p (e - 1) ≡ two (bulgeEnd n (e - 1) (before (e - 1) .t)) = rw (eq-eqb (e - 1) (e - 1) refl) in
+      step-chased wanted n s e (e - 1) (e + 1) (two (bulgeEnd n (e - 1) (before (e - 1) .t))) (p .t) (before (e - 1))
+      (record {
+        size = z .size;
+        begun = omega arith;
+        room = r;
+        some = omega arith;
+        short = omega arith;
+        fits = omega arith;
+        covers = λ i u v. omega arith;
+        near = omega arith;
+        within = omega arith;
+        holds = λ l m h. end-holds n (e - 1) (before (e - 1) .t) m h;
+      })
+      (rw last at (no-axis (e - 1) (omega arith) (omega arith))) z
+
+  here-chased : Chased n s e e (p .t) (passHere wanted n w p .t)
+  unfolding passHere before passTo
+  here-chased =
+      let z = o .settled in
+      let q : e - 1 + 1 ≡ e = omega arith in
+      let begun : Chased n s e s (p .t) (p .t) = record { size = z .size; bulge = λ i j h l _. z .far i j h l; below = λ i j _ _. refl } in
+      let walked = range-walk (λ k r. Chased n s e k (p .t) (r .t)) (chased wanted n (firstColumn n s e (p .t)) s e) s (e - 1) p (omega arith) chased-on begun in
+      subst (λ k. Chased n s e k (p .t) (passHere wanted n w p .t)) q (closed-off walked)
+
+  pass-is-here : n ≤ 64 → passOf wanted n w p ≡ passHere wanted n w p
+  unfolding passOf
+  pass-is-here small = let r = o .room in rw (fitting n (length (p .t)) (e + 1) (e + 1) small (o .settled .size) (omega arith) (omega arith), le-leb (s + 2) e three-rows)
+
+  pub pass-settled : n ≤ 64 → Settled n e (passOf wanted n w p .t)
+  pass-settled small =
+      let z = o .settled in
+      let c = here-chased in
+      let still : (i j : ℕ) → i < n → e < i → isZero (p .t ! place n i j) ≡ true → isZero (passHere wanted n w p .t ! place n i j) ≡ true = λ i j h l k. ap isZero (c .below i j h l) ∙ k in
+      rw (pass-is-here small) (record {
+        size = c .size;
+        far = λ i j h l. c .bulge i j h l (λ _ a _ b. omega arith);
+        end = λ l. still (e + 1) e l (omega arith) (z .end l);
+        near = λ k h l. either-keeps _ _ _ _ (still (k + 1) k (omega arith) (omega arith)) (still (k + 2) (k + 1) l (omega arith)) (z .near k h l);
+      })
+
+-- ---- the turn
+
+pub more-sound : (wanted : Bool) (n : ℕ) (eps : Float) (s : State) (p : Pair) → n ≤ 64 → Open n (s .window) (p .t) → s .window .start + 2 ≤ s .window .end
+    → passVanished wanted n (s .window) p ≡ false → SoundAt n (turnMore wanted n eps s p)
+unfolding turnMore after
+more-sound wanted n eps s p small o l none =
+    delimit-sound n eps (s .window .end) (passOf wanted n (s .window) p .t) small (o .room) (pass-settled wanted n (s .window) p o l none small)

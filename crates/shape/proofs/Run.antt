@@ -1,0 +1,143 @@
+-- A run in which no axis vanished: every turn keeps what is settled, so where its window closes T has the shape, and a run that ends short of its budget
+-- has closed its window. Assumes nothing.
+use Prim.Native.Nat.{ℕ, _+_, _-_, _*_, _<_, _≤_}
+use mathlib.Core.Bool.{Bool, true, false, cond, true≢false}
+use mathlib.Core.Path.{_≡_, refl, sym, ap, _∙_}
+use mathlib.Core.List.{List}
+use native.Mathlib.Decide.{decLt}
+use native.Mathlib.Omega.{arith}
+use borrow.Author.Tests.{leb-true, leb-false, le-leb, eqb-true, eqb-false, eq-eqb, ne-eqb}
+use lib.Dec.{eqb, leb}
+use lib.ListN.{length}
+use lib.Ieee.{Float}
+use Rattle.loops.specs.First.{some-none}
+use Rattle.loops.specs.Place.{place, in-square}
+use Rattle.loops.specs.Rounded.{_⊗_, _!_}
+use Rattle.loops.specs.Until.{until, until-walk}
+use Rattle.scalar.specs.Class.{isZero, isFinite}
+use Rattle.matrix.specs.Vectors.{largest, scaled, unscaled}
+use Rattle.matrix.proofs.Each.{eachTo-length, eachTo-at}
+use Rattle.hessenberg.specs.Reduced.{workFits, reduced}
+use Rattle.hessenberg.specs.Unpacked.{unpackedH}
+use Rattle.hessenberg.proofs.Frames.{reduced-length, reduced-work, unpackedH-length, unpackedH-zero}
+use Rattle.window.specs.Window.{window}
+use Rattle.pass.specs.Pair.{Pair, pair}
+use Rattle.schur.specs.declared.run.State.{State}
+use Rattle.schur.specs.declared.run.Ran.the-variants.{Ended}
+use Rattle.schur.specs.Run.{Running, closed, after, turnTwo, turnMore, turnOf, runFrom, scaledDown, reducedPair, opened, Left, answered, ranOf}
+use Rattle.schur.proofs.Counting.{opened-none}
+use Rattle.refusal.specs.Shape.{QuasiTriangular}
+use Rattle.shape.specs.Vanished.{passVanished, turnVanished, runVanished, vanished}
+use Rattle.shape.proofs.Zeros.{zero-is, either-keeps, cond-both, times-keeps}
+use Rattle.shape.proofs.Delimited.{Settled, Sound, delimit-sound}
+use Rattle.shape.proofs.Split.{SoundAt, two-sound}
+use Rattle.shape.proofs.Passed.{more-sound}
+
+-- ---- one turn
+
+turn-sound : (wanted : Bool) (n : ℕ) (eps : Float) (r : Running) → n ≤ 64 → closed r ≡ false → turnVanished wanted n r ≡ false → SoundAt n r → SoundAt n (turnOf wanted n eps r)
+unfolding closed turnOf turnVanished
+turn-sound wanted n eps r small still none z =
+    let w = r .state .window in
+    let o = z .whenOpen (eqb-false (w .start) (w .end) still) in
+    cond-both (SoundAt n) (leb (w .end) (w .start + 1)) _ _
+    (λ e. two-sound wanted n eps (r .state) (r .pair) small o (leb-true (w .end) (w .start + 1) e))
+    (λ e. let more = leb-false (w .end) (w .start + 1) e in more-sound wanted n eps (r .state) (r .pair) small o (omega arith) (rw e at none))
+
+-- ---- the first state
+
+scaledDown-length : (t : List Float) → length (scaledDown t) ≡ length t
+unfolding scaledDown unscaled
+scaledDown-length t = cond-both (λ s. length s ≡ length t) (isZero (largest t)) t (unscaled (largest t) t) (λ _. refl) (λ _. eachTo-length _ _ t)
+
+-- H is +0 two or more places below its diagonal, and has no row below the last
+opened-settled : (n : ℕ) (t w : List Float) → n ≤ 64 → 1 ≤ n → length t ≡ n * n → length w ≡ 2 * n → Settled n (n - 1) (unpackedH n (reduced n t w .work) (reduced n t w .matrix))
+unfolding workFits
+opened-settled n t w small some size room =
+    let kept : length (reduced n t w .matrix) ≡ n * n = reduced-length n t w ∙ size in
+    record {
+      size = unpackedH-length n _ _ ∙ kept;
+      far = λ i j h l. ap isZero (unpackedH-zero n (reduced n t w .work) (reduced n t w .matrix) i j small kept (eq-eqb _ _ (reduced-work n t w ∙ room)) h l) ∙ zero-is;
+      end = λ l. absurd (omega arith);
+      near = λ k h l. absurd (omega arith);
+    }
+
+opened-sound : (wanted : Bool) (n : ℕ) (eps : Float) (w : List Float) (p : Pair) → n ≤ 64 → 1 ≤ n → length (p .t) ≡ n * n → length w ≡ 2 * n → SoundAt n (opened wanted n eps w p)
+unfolding opened after reducedPair
+opened-sound wanted n eps w p small some size room =
+    delimit-sound n eps (n - 1) _ small (omega arith) (opened-settled n (scaledDown (p .t)) w small some (scaledDown-length (p .t) ∙ size) room)
+
+-- ---- all turns
+
+run-sound : (wanted : Bool) (n : ℕ) (eps : Float) (budget : ℕ) (r : Running) → n ≤ 64 → runVanished wanted n eps budget r ≡ false → SoundAt n r → SoundAt n (runFrom wanted n eps budget r)
+unfolding runFrom runVanished
+run-sound wanted n eps budget r small none z =
+    until-walk (λ _. SoundAt n) closed (turnOf wanted n eps) budget r (λ m l d h. h)
+    (λ m l d h. turn-sound wanted n eps _ small d (some-none (λ m. turnVanished wanted n (runFrom wanted n eps m r)) 0 budget m none (omega arith) l) h) z
+
+-- a turn counts 1, or closes the window
+turn-counted : (wanted : Bool) (n : ℕ) (eps : Float) (r : Running) → closed (turnOf wanted n eps r) ≡ false → turnOf wanted n eps r .state .passes ≡ r .state .passes + 1
+unfolding turnOf turnTwo turnMore after closed
+turn-counted wanted n eps r =
+    cond-both (λ x. closed x ≡ false → x .state .passes ≡ r .state .passes + 1) (leb (r .state .window .end) (r .state .window .start + 1)) _ _
+    (λ _. cond-both (λ x. closed x ≡ false → x .state .passes ≡ r .state .passes + 1) (leb (r .state .window .end) 2) _ _ (λ _ d. absurd (true≢false d)) (λ _ d. refl))
+    (λ _ d. refl)
+
+-- so a run whose window is still open has counted all its turns
+run-counted : (wanted : Bool) (n : ℕ) (eps : Float) (budget : ℕ) (r : Running) → r .state .passes ≡ 0 → closed (runFrom wanted n eps budget r) ≡ false
+    → runFrom wanted n eps budget r .state .passes ≡ budget
+unfolding runFrom
+run-counted wanted n eps budget r first =
+    until-walk (λ m x. closed x ≡ false → x .state .passes ≡ m) closed (turnOf wanted n eps) budget r (λ m l d h still. absurd (true≢false (sym d ∙ still)))
+    (λ m l d h still. turn-counted wanted n eps _ still ∙ ap (λ k. k + 1) (h d)) (λ _. first)
+
+-- ---- what is left of T
+
+-- a multiple of T by a finite number has the shape too
+scaled-shape : (n : ℕ) (a : Float) (t : List Float) → length t ≡ n * n → isFinite a ≡ true → QuasiTriangular n t → QuasiTriangular n (scaled a t)
+unfolding scaled
+scaled-shape n a t size finite z = record {
+  far = λ i j h l. at i j h (omega arith) (z .far i j h l);
+  near = λ k l. either-keeps _ _ _ _ (at (k + 1) k (omega arith) (omega arith)) (at (k + 2) (k + 1) l (omega arith)) (z .near k l);
+}
+  where
+    at : (i j : ℕ) → i < n → j < n → isZero (t ! place n i j) ≡ true → isZero (scaled a t ! place n i j) ≡ true
+    at i j h l e =
+        let inside : place n i j < length t = omega (arith, size, in-square n i j h l) in
+        ap isZero (eachTo-at (length t) (λ _ x. x ⊗ a) t (place n i j) inside (omega arith)) ∙ times-keeps (t ! place n i j) a finite e
+
+-- orders 1 and 2 have no other
+small-shape : (n : ℕ) (t : List Float) → n ≤ 2 → QuasiTriangular n t
+small-shape n t l = record { far = λ i j h m. absurd (omega arith); near = λ k m. absurd (omega arith) }
+
+-- a run that ends short of its budget has closed its window
+answered-shape : {c : ℕ} (n budget : ℕ) (amax : Float) (r : Running) → isFinite amax ≡ true → SoundAt n r → (closed r ≡ false → r .state .passes ≡ budget)
+    → answered budget amax r .answer ≡ Ended c → QuasiTriangular n (answered budget amax r .pair .t)
+unfolding answered closed
+answered-shape {c} n budget amax r finite z counted =
+    let w = r .state .window in
+    cond-both (λ (x : Left). x .answer ≡ Ended c → QuasiTriangular n (x .pair .t)) (eqb (r .state .passes) budget) _ _
+    (λ _ e. let q : _≡_ {A = ℕ} 0 1 = cc in absurd (omega arith))
+    (λ short _. scaled-shape n amax (r .pair .t) (z .size) finite (go (closed r) refl short))
+  where
+    go : (b : Bool) → closed r ≡ b → eqb (r .state .passes) budget ≡ false → QuasiTriangular n (r .pair .t)
+    go true h short = z .whenClosed (eqb-true (r .state .window .start) (r .state .window .end) h)
+    go false h short = absurd (eqb-false (r .state .passes) budget short (counted h))
+
+-- A run on a matrix of finite entries that ended short of its budget, and in which no axis was nonzero with squares that vanished, has the shape.
+pub ended-shape : {c : ℕ} (wanted : Bool) (n : ℕ) (eps : Float) (budget : ℕ) (p : Pair) (w : List Float) → 1 ≤ n → n ≤ 64 → length (p .t) ≡ n * n → length w ≡ 2 * n
+    → isFinite (largest (p .t)) ≡ true → vanished wanted n eps budget p w ≡ false → ranOf wanted n eps budget p w .answer ≡ Ended c
+    → QuasiTriangular n (ranOf wanted n eps budget p w .pair .t)
+unfolding ranOf vanished
+ended-shape {c} wanted n eps budget p w some small size room finite none = go (decLt n 3)
+  where
+    first : Running
+    first = opened wanted n eps w p
+
+    go : Dec (n < 3) → ranOf wanted n eps budget p w .answer ≡ Ended c → QuasiTriangular n (ranOf wanted n eps budget p w .pair .t)
+    go (yes l) = λ _. small-shape n _ (omega arith)
+    go (no l) =
+        rw (ne-eqb n 1 (λ q. omega arith), ne-eqb n 2 (λ q. omega arith))
+        (answered-shape n budget (largest (p .t)) (runFrom wanted n eps budget first) finite
+        (run-sound wanted n eps budget first small (rw (le-leb 3 n (omega arith)) at none) (opened-sound wanted n eps w p small some size room))
+        (run-counted wanted n eps budget first (opened-none wanted n eps w p)))
