@@ -1,8 +1,10 @@
 -- Laws that other crates may cite. `Passing`: what follows where all checks of the arguments have passed; `Touched`: what lent memory holds afterwards;
--- `Count`: the answer by the counted passes; `Independent`: an accepted T and its count do not depend on Q; `One`: two answers that the contract allows are one.
+-- `Count`: the answer by the counted passes; `Shape`: an accepted T is finite and quasi-triangular; `Independent`: an accepted T
+-- and its count do not depend on Q; `One`: two answers that the contract allows are one.
 pub mod Passing
 pub mod Touched
 pub mod Count
+pub mod Shape
 pub mod Independent
 pub mod One
 mod Judging

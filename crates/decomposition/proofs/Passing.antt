@@ -58,6 +58,7 @@ some-budget b h = leb-true 1 b (both (leb 1 b) (leb b 1000000) h .0)
 pub record Lent (wanted : Bool) (n mn tn qn wn : ℕ) : Type 0 where
   pub alike : mn ≡ tn
   pub square : tn ≡ n * n
+  pub room : wn ≡ 2 * n
   pub fits : runFits wanted n tn qn wn ≡ true
 
 pub all-lent : (wanted : Bool) (n mn tn qn wn : ℕ) → 1 ≤ n → n ≤ 64 → lengthsFit wanted n mn tn qn wn ≡ true → Lent wanted n mn tn qn wn
@@ -69,6 +70,7 @@ all-lent wanted n mn tn qn wn some small h =
     record {
       alike = eqb-true mn (n * n) (a .0) ∙ sym square;
       square = square;
+      room = eqb-true wn (2 * n) (both (not wanted || eqb qn (n * n)) (eqb wn (2 * n)) (b .1) .1);
       fits = rw (le-leb 1 n some, fitting n tn n n small square (omega arith) (omega arith)) (b .1);
     }
 

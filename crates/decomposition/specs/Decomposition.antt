@@ -13,6 +13,7 @@ use Rattle.schur.specs.Run.{Left, ranOf}
 use Rattle.refusal.specs.declared.refusal.Refusal.the-variants as refusal
 use Rattle.refusal.specs.declared.refusal.Checked.{Checked}
 use Rattle.refusal.specs.declared.refusal.Checked.the-variants.{Passed, Refused}
+use Rattle.refusal.specs.Shape.{QuasiTriangular}
 use Rattle.decomposition.specs.declared.Decomposed.{Decomposed}
 use Rattle.decomposition.specs.declared.Decomposed.the-variants.{Accepted, Declined}
 use Rattle.decomposition.specs.Checks.{lengthsFit, argumentChecks, resultChecks}
@@ -78,3 +79,8 @@ decompositionOf wanted n tolerance budget m p w =
 abbrev pub belowBudget : Decomposed → ℕ → Type 0
 belowBudget (Accepted passes) budget = passes < budget
 belowBudget (Declined r) budget = Unit {0}
+
+-- an accepted T is quasi-triangular
+abbrev pub shaped : Decomposed → ℕ → List Float → Type 0
+shaped (Accepted passes) n t = QuasiTriangular n t
+shaped (Declined r) n t = Unit {0}

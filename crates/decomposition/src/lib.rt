@@ -12,7 +12,7 @@ ghost use Rattle.refusal.specs.Refusal.{refuseAt, _next_};
 ghost use Rattle.refusal.specs.Search.{firstNotFinite, firstSpoiling};
 ghost use Rattle.schur.specs.Run.{ranOf, runFits};
 ghost use Rattle.decomposition.specs.Checks.{toleranceFits, budgetFits, lengthsFit, argumentChecks, resultChecks};
-ghost use Rattle.decomposition.specs.Decomposition.{outcome, verdict, passesOf, spoiled, settlement, settled, judged, decompositionOf, belowBudget};
+ghost use Rattle.decomposition.specs.Decomposition.{outcome, verdict, passesOf, spoiled, settlement, settled, judged, decompositionOf, belowBudget, shaped};
 use refusal::Checked;
 use refusal::Refusal;
 use schur::Ran;
@@ -203,6 +203,7 @@ pub fn try_new(
 ) -> Decomposed
     ensures { λ r. ⌜ outcome r (pair (now (t .exit)) (now (q .exit))) (now (work .exit)) ≡ decompositionOf wanted n tolerance budget (now (m .entry)) (pair (now (t .entry)) (now (q .entry))) (now (work .entry)) ⌝ }
     ensures { λ r. ⌜ belowBudget r budget ⌝ }
+    ensures { λ r. ⌜ shaped r n (now (t .exit)) ⌝ }
 {
     match check_arguments(
         m,

@@ -16,7 +16,7 @@ use Rattle.eigenvalues.proofs.plain.plain_eigenvalues.Reads as reads-pl
 -- the list of eigenvalues
 pub one-real : (κs : Lfts 2) (a : Dens κs real.ps) (r r' : Checked) (s s' : AtExit (endedOf 2 real.ps real.r) κs) → reads-real.Post κs a r s → reads-real.Post κs a r' s'
     → (r ≡ r') × (s .1 .1 .0 .now ≡ s' .1 .1 .0 .now)
-one-real κs a r r' s s' h k = let e = one-answer _ _ _ h k in (ap (λ x. x .answer) e, ap (λ x. x .values) e)
+one-real κs a r r' s s' h k = let e = one-answer _ _ _ (h .0) (k .0) in (ap (λ x. x .answer) e, ap (λ x. x .values) e)
 
 -- the lists of real and of imaginary parts
 pub one-complex : (κs : Lfts 3) (a : Dens κs complex.ps) (r r' : Checked) (s s' : AtExit (endedOf 3 complex.ps complex.r) κs) → reads-complex.Post κs a r s → reads-complex.Post κs a r' s'

@@ -30,7 +30,7 @@ use Rattle.refusal.proofs.Checking.{next-passed, refuse-passed, refuseAt-passed
 use Rattle.decomposition.specs.declared.Decomposed.the-variants.{Accepted, Declined}
 use Rattle.decomposition.specs.Checks.{toleranceFits, budgetFits, lengthsFit}
 use Rattle.decomposition.specs.Decomposition.{Outcome, judged, decompositionOf}
-use Rattle.decomposition.proofs.Passing.{passed-judged}
+use Rattle.decomposition.proofs.Passing.{Right, passed-judged}
 use Rattle.eigenvalues.specs.Readers.{anyPaired, diagonal, Read, read}
 use Rattle.eigenvalues.specs.Plain.{plainChecks, bothOf, plainTwo, plainBudget, complexChecked, plainRun, plainRead, listed, plain, plainBegun, plainOf}
 use Rattle.eigenvalues.proofs.Diagonal.{Sought, sought-none, sought-more, place-here, place-none}
@@ -100,13 +100,17 @@ bound : budgetFits plainBudget ≡ true
 unfolding budgetFits
 bound = refl
 
--- the decomposition without Q: what it leaves is what is said of its run
+-- the decomposition without Q: its checks have passed, and what it leaves is what is said of its run
+pub plain-fit : (n : ℕ) (m t q w : List Float) → 1 ≤ n → n ≤ 64 → length m ≡ n * n → length t ≡ n * n → length w ≡ 2 * n → firstNotFinite n m ≡ Nowhere
+    → Right (lengthsFit false n (length m) (length t) (length q) (length w)) n epsilon plainBudget m
+unfolding lengthsFit
+plain-fit n m t q w some small size room work entries =
+    record { some = some; order = small; lent = rw (eq-eqb _ _ size, eq-eqb _ _ room, eq-eqb _ _ work); near = near; bound = bound; entries = entries }
+
 pub plain-judged : (n : ℕ) (m t q w : List Float) → 1 ≤ n → n ≤ 64 → length m ≡ n * n → length t ≡ n * n → length w ≡ 2 * n → firstNotFinite n m ≡ Nowhere
     → decompositionOf false n epsilon plainBudget m (pair t q) w ≡ judged false n (ranOf false n epsilon plainBudget (pair m q) w) w
-unfolding lengthsFit
 plain-judged n m t q w some small size room work entries =
-    passed-judged false n epsilon plainBudget m (pair t q) w
-    (record { some = some; order = small; lent = rw (eq-eqb _ _ size, eq-eqb _ _ room, eq-eqb _ _ work); near = near; bound = bound; entries = entries })
+    passed-judged false n epsilon plainBudget m (pair t q) w (plain-fit n m t q w some small size room work entries)
 
 pub run-refused : (n : ℕ) (o : Outcome) (r : Refusal) (values : List Float) → o .answer ≡ Declined r → read (Refused r) values ≡ listed (plainRun n o) values
 unfolding listed plainRun complexChecked ifPassed

@@ -10,6 +10,7 @@ ghost use Rattle.refusal.specs.Refusal.{refuseAt, _next_};
 ghost use Rattle.refusal.specs.Search.{firstOnDiagonal, firstNotFinite, firstSpoiling};
 ghost use Rattle.eigenvalues.specs.Blocks.{notComplex, eigenvalueAt};
 ghost use Rattle.eigenvalues.specs.Readers.{readable, anyPaired, realChecks, diagonal, read, realRead, notFiniteAt, complexChecks, complexly, complexRead};
+ghost use Rattle.eigenvalues.specs.Real.{RealAnswer};
 use crate::block::BlockAnswer;
 use crate::block::answer_at;
 use crate::block::eigenvalue_of;
@@ -94,6 +95,7 @@ pub(crate) fn do_eigenvalues(t: &[f64], n: usize, values: &mut [f64])
 // The eigenvalues of T, if all are real. A refusal leaves `values` as it was.
 pub fn eigenvalues(t: &[f64], n: usize, values: &mut [f64]) -> Checked
     ensures { λ r. ⌜ read r (now (values .exit)) ≡ realRead n (now (t .entry)) (now (values .entry)) ⌝ }
+    ensures { λ r. ⌜ RealAnswer n (now (t .entry)) (now (values .entry)) r (now (values .exit)) ⌝ }
 {
     let checked = real_checks(t, n, values.len() == n);
     let Checked::Passed = checked else {

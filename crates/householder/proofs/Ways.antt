@@ -1,14 +1,19 @@
 -- The axis by its ways, told of the numbers that a routine has in hand. Assumes nothing.
 use mathlib.Core.Path.{_≡_, refl, sym, ap, _∙_}
 use mathlib.Core.Logic.{_≢_}
-use mathlib.Core.Bool.{Bool, true, false, cond}
+use Prim.Native.Nat.{ℕ, zero, suc, _<_}
+use mathlib.Core.Bool.{Bool, true, false, cond, _&&_, false≢true}
 use mathlib.Core.List.{List}
+use native.Mathlib.Decide.{decLt}
+use native.Mathlib.Omega.{arith}
 use borrow.Author.Tests.{eq-eqb, ne-eqb}
 use lib.Dec.{eqb}
 use lib.ListN.{length, set, length-set}
 use lib.Ieee.{Float, neg}
-use Rattle.loops.specs.Constants.{zero, two}
+use Rattle.loops.specs.Constants.{two}
+use Rattle.loops.specs.Constants.{zero as zeroF}
 use Rattle.loops.specs.Rounded.{_⊕_, _⊗_, _!_}
+use Rattle.loops.specs.Times.{times}
 use Rattle.scalar.specs.Root.{rootOf}
 use Rattle.scalar.specs.Sign.{toExpOf}
 use Rattle.scalar.specs.Class.{isZero}
@@ -18,7 +23,7 @@ use Rattle.matrix.proofs.Each.{eachTo-length}
 use Rattle.householder.specs.Axis.{told, signedNorm, factorOf, shifted, Way, Reflected, AllZero, TooSmall, allZero, wayOf, inWay, axisOf}
 
 -- a column without a number
-pub axis-empty : (sum : Order) (c : List Float) → length c ≡ 0 → told c zero false ≡ axisOf sum c
+pub axis-empty : (sum : Order) (c : List Float) → length c ≡ 0 → told c zeroF false ≡ axisOf sum c
 unfolding axisOf
 axis-empty sum c h = rw (eq-eqb _ _ h)
 
@@ -75,6 +80,34 @@ pub axis-length : (sum : Order) (c : List Float) → length (axisOf sum c .axis)
 unfolding axisOf
 axis-length sum c = go (eqb (length c) 0)
   where
-    go : (b : Bool) → length (cond b (told c zero false) (inWay sum c (wayOf sum c)) .axis) ≡ length c
+    go : (b : Bool) → length (cond b (told c zeroF false) (inWay sum c (wayOf sum c)) .axis) ≡ length c
     go true = refl
     go false = inWay-length sum c (wayOf sum c)
+
+-- ---- a column that is zero throughout
+
+zeros-to : (c : List Float) (n i : ℕ) → times (λ i b. b && isZero (c ! i)) n true ≡ true → i < n → isZero (c ! i) ≡ true
+unfolding times
+zeros-to c zero i h l = absurd (omega arith)
+zeros-to c (suc n) i h l = go (decLt i n) (times (λ i b. b && isZero (c ! i)) n true) refl (zeros-to c n i) h
+  where
+    go : Dec (i < n) → (b : Bool) → times (λ i b. b && isZero (c ! i)) n true ≡ b
+        → (times (λ i b. b && isZero (c ! i)) n true ≡ true → i < n → isZero (c ! i) ≡ true) → b && isZero (c ! n) ≡ true → isZero (c ! i) ≡ true
+    go d false e later k = absurd (false≢true k)
+    go (yes m) true e later k = later e m
+    go (no m) true e later k = let q : i ≡ n = omega arith in rw q k
+
+-- the way "all zero" says so
+pub way-zero : (sum : Order) (c : List Float) (i : ℕ) → wayOf sum c ≡ AllZero → i < length c → isZero (c ! i) ≡ true
+unfolding wayOf allZero
+way-zero sum c i e l = zeros-to c (length c) i (go (isZero (factorOf sum c)) (allZero c) e) l
+  where
+    go : (f z : Bool) → cond f (cond z AllZero TooSmall) Reflected ≡ AllZero → z ≡ true
+    go true true h = refl
+    go true false h = cc
+    go false z h = cc
+
+-- a column with a number is told by its way
+pub axis-way : (sum : Order) (c : List Float) → 0 < length c → axisOf sum c ≡ inWay sum c (wayOf sum c)
+unfolding axisOf
+axis-way sum c l = rw (ne-eqb (length c) 0 (λ e. omega arith))

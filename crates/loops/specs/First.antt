@@ -5,7 +5,7 @@ use mathlib.Core.Bool.{Bool, true, false}
 use Prim.Native.Nat.{ℕ, zero, suc, _+_, _-_, _<_, _≤_}
 use native.Mathlib.Decide.{decLt}
 use native.Mathlib.Omega.{arith}
-use borrow.Author.Tests.{ltb-false}
+use borrow.Author.Tests.{ltb-false, le-ltb}
 use lib.Dec.{ltb}
 use Rattle.loops.specs.Until.{until, until-out, until-stop, until-turn}
 
@@ -97,3 +97,7 @@ some-named test a b i l m h = go (some test a b) refl
     go : (d : Bool) → some test a b ≡ d → d ≡ true
     go true e = refl
     go false e = sym (some-none test a b i e l m) ∙ h
+
+-- it names none of them, and so not some
+pub none-some : (test : ℕ → Bool) (a b : ℕ) → a ≤ b → ((i : ℕ) → a ≤ i → i < b → test i ≡ false) → some test a b ≡ false
+none-some test a b l none = le-ltb _ b (omega (arith, first-past test b a b l (omega arith) none, first-none test b b (omega arith)))

@@ -14,3 +14,8 @@ falsity e = subst (λ b. T (not b)) (sym e) tt
 pub cond-hold : {A : Type 0} (P : A → Type 0) (b : Bool) (x y : A) → (b ≡ true → P x) → P y → P (cond b x y)
 cond-hold P true x y h k = h refl
 cond-hold P false x y h k = k
+
+-- the same, each where it is taken
+pub cond-both : {A : Type 0} (P : A → Type 0) (b : Bool) (x y : A) → (b ≡ true → P x) → (b ≡ false → P y) → P (cond b x y)
+cond-both P true x y h k = h refl
+cond-both P false x y h k = k refl

@@ -65,26 +65,28 @@ inBlock-at n r0 r1 c0 c1 g t i j size h k at =
     ∙ column-at n g j r0 r1 (inBlock n r0 r1 c0 j g t) i h (omega arith) (omega arith) (omega arith)
     ∙ ap (g i j) (inBlock-frame n r0 r1 c0 j g t i j h (omega arith) (λ o. omega arith))
 
-pos : (n p : ℕ) → p < n * n → 0 < n
-pos zero p h = absurd (omega arith)
-pos (suc n) p h = omega arith
-
 -- rules that agree in the block
 pub inBlock-same : (n r0 r1 c0 c1 : ℕ) (g h : Rule) (t : List Float) → ((i j : ℕ) (x : Float) → Inside r0 r1 c0 c1 i j → g i j x ≡ h i j x) → inBlock n r0 r1 c0 c1 g t ≡ inBlock n r0 r1 c0 c1 h t
 unfolding inBlock
 inBlock-same n r0 r1 c0 c1 g h t same =
     range-same _ _ _ _ _ (λ j s a b. range-same _ _ _ _ _ (λ i u c d. ap (set u (place n i j)) (same i j (u ! place n i j) (omega arith))))
 
--- ---- two matrices with the same entries are one list
+-- ---- every index of a matrix is the place of an entry
+
+pos : (n p : ℕ) → p < n * n → 0 < n
+pos zero p h = absurd (omega arith)
+pos (suc n) p h = omega arith
+
+pub each-place : (P : ℕ → Type 0) (n : ℕ) → ((i j : ℕ) → i < n → j < n → P (place n i j)) → (p : ℕ) → p < n * n → P p
+each-place P n all p l =
+    let positive : 0 < n = pos n p l in
+    let e = div-add-mod' p n in
+    rw e at (all (p % n) (p / n) (mod-lt p positive) (div-lt-iff-lt-mul positive .1 l))
+
+-- so two matrices with the same entries are one list
 
 pub same-entries : (n : ℕ) (s t : List Float) → length s ≡ n * n → length t ≡ n * n → ((i j : ℕ) → i < n → j < n → s ! place n i j ≡ t ! place n i j) → s ≡ t
-same-entries n s t h k same = ext-getD nan s t (omega arith) go
-  where
-    go : (p : ℕ) → p < length s → s ! p ≡ t ! p
-    go p l =
-        let positive : 0 < n = pos n p (omega arith) in
-        let e = div-add-mod' p n in
-        rw e at (same (p % n) (p / n) (mod-lt p positive) (div-lt-iff-lt-mul positive .1 (omega arith)))
+same-entries n s t h k same = ext-getD nan s t (omega arith) (λ p l. each-place (λ p. s ! p ≡ t ! p) n same p (omega arith))
 
 -- the block is the only list that has its entries
 pub inBlock-is : (n r0 r1 c0 c1 : ℕ) (g : Rule) (t s : List Float) → length t ≡ n * n → length s ≡ n * n → r1 ≤ n → c1 ≤ n

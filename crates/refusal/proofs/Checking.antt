@@ -41,6 +41,11 @@ unfolding refuse
 refuse-passed true r h = absurd (refused-not-passed r h)
 refuse-passed false r h = refl
 
+pub refuse-refused : {s : Refusal} (fault : Bool) (r : Refusal) → refuse fault r ≡ Refused s → fault ≡ true
+unfolding refuse
+refuse-refused true r h = refl
+refuse-refused false r h = cc
+
 pub refuseAt-passed : (r : Place → Refusal) (s : Search) → refuseAt r s ≡ Passed → s ≡ Nowhere
 unfolding refuseAt
 refuseAt-passed r (At p) h = absurd (refused-not-passed (r p) h)
@@ -57,7 +62,18 @@ unfolding _next_
 only-next P Passed d h k = k
 only-next P (Refused r) d h k = h
 
+pub only-refuse : (P : Refusal → Type 0) (fault : Bool) (r : Refusal) → P r → Only P (refuse fault r)
+unfolding refuse
+only-refuse P true r h = h
+only-refuse P false r h = tt
+
 pub only-at : (P : Refusal → Type 0) (f : Place → Refusal) (s : Search) → ((p : Place) → P (f p)) → Only P (refuseAt f s)
 unfolding refuseAt
 only-at P f (At p) h = h p
 only-at P f Nowhere h = tt
+
+-- a refusal that the first never comes to is the second's
+pub next-second : {r : Refusal} (P : Refusal → Type 0) (c d : Checked) → Only P c → (P r → ⊥) → (c next d) ≡ Refused r → (c ≡ Passed) × (d ≡ Refused r)
+unfolding _next_
+next-second P Passed d h out e = (refl, e)
+next-second {r} P (Refused s) d h out e = let same : s ≡ r = cc in absurd (out (subst P same h))

@@ -1,4 +1,6 @@
--- Laws that other crates may cite. `Searching`: a search column by column; `Spoiling`: which entries spoil the shape; `Checking`: checks in turn.
+-- Laws that other crates may cite. `Searching`: a search column by column; `Spoiling`: which entries spoil the shape; `Shape`: what holds of the
+-- matrix where none is at fault; `Checking`: checks in turn.
 pub mod Searching
 pub mod Spoiling
+pub mod Shape
 pub mod Checking

@@ -1,4 +1,5 @@
--- A search column by column, as a loop makes it: what is left to search at column j is the whole. Assumes nothing.
+-- A search column by column, as a loop makes it: what is left to search at column j is the whole. It finds nothing exactly where the test names no place.
+-- Assumes nothing.
 use Prim.Native.Nat.{ℕ, _+_, _<_, _≤_}
 use mathlib.Core.Bool.{Bool, true, false, cond}
 use mathlib.Core.Path.{_≡_, refl, sym, ap, _∙_}
@@ -6,7 +7,8 @@ use native.Mathlib.Decide.{decLt}
 use native.Mathlib.Omega.{arith}
 use borrow.Author.Tests.{lt-ltb, le-ltb}
 use lib.Dec.{ltb}
-use Rattle.loops.specs.First.{firstFrom, first-here, first-on, first-none, first-same}
+use Rattle.loops.specs.First.{firstFrom, first-here, first-on, first-none, first-same, some-none, none-some}
+use Rattle.refusal.specs.declared.refusal.Place.{Place}
 use Rattle.refusal.specs.declared.search.Search.the-variants.{At, Nowhere}
 use Rattle.refusal.specs.Refusal.{at}
 use Rattle.refusal.specs.Search.{firstRow, firstCol, firstPlace}
@@ -60,3 +62,17 @@ firstPlace-same test other n same = go (decLt (firstCol test n) n)
     go (no l) =
         let past : ltb (firstCol test n) n ≡ false = le-ltb (firstCol test n) n (omega arith) in
         sym (by test n (firstCol test n) false refl past) ∙ by other n (firstCol test n) false (firstCol-same test other n same) past
+
+-- ---- nowhere: no place of the matrix is named; and the other way
+
+missed : (b : Bool) (p : Place) → cond b (At p) Nowhere ≡ Nowhere → b ≡ false
+missed true p h = cc
+missed false p h = refl
+
+pub nowhere-none : (test : ℕ → ℕ → Bool) (n : ℕ) → firstPlace test n ≡ Nowhere → (i j : ℕ) → i < n → j < n → test i j ≡ false
+unfolding firstPlace firstCol firstRow
+nowhere-none test n h i j k l = some-none (λ i. test i j) 0 n i (some-none (inColumn test n) 0 n j (missed _ _ h) (omega arith) l) (omega arith) k
+
+pub none-nowhere : (test : ℕ → ℕ → Bool) (n : ℕ) → ((i j : ℕ) → i < n → j < n → test i j ≡ false) → firstPlace test n ≡ Nowhere
+unfolding firstPlace firstCol firstRow
+none-nowhere test n none = rw (none-some (inColumn test n) 0 n (omega arith) (λ j _ l. none-some (λ i. test i j) 0 n (omega arith) (λ i _ k. none i j k l)))

@@ -1,88 +1,32 @@
 -- One step of a pass: the bulge moves on by one row and column, unless the axis was not zero and its squares vanished. What the numbers are plays
 -- no part: NaN and infinities are swept like any other. Assumes nothing.
-use Prim.Native.Nat.{ℕ, zero, suc, _+_, _-_, _*_, _<_, _≤_}
-use mathlib.Core.Bool.{Bool, true, false, cond, _&&_, false≢true}
+use Prim.Native.Nat.{ℕ, _+_, _-_, _*_, _<_, _≤_}
+use mathlib.Core.Bool.{Bool, true, false, cond, false≢true}
 use mathlib.Core.Logic.{_≢_}
 use mathlib.Core.Path.{_≡_, refl, sym, ap, _∙_}
 use mathlib.Core.List.{List}
 use native.Mathlib.Decide.{decLt}
 use native.Mathlib.Omega.{arith}
-use borrow.Author.Tests.{leb-true, leb-false, ne-eqb}
+use borrow.Author.Tests.{leb-true, leb-false}
 use lib.Dec.{leb}
-use lib.ListN.{length, set, length-set}
-use lib.Seq.{getD-set-same, getD-set-other}
-use lib.Ieee.{Float, nan}
+use lib.ListN.{length}
+use lib.Ieee.{Float}
 use Rattle.loops.specs.Constants.{one}
-use Rattle.loops.specs.Constants.{zero as zeroF}
-use Rattle.loops.specs.Place.{place, places, in-square}
+use Rattle.loops.specs.Place.{place}
+use Rattle.loops.specs.Tests.{cond-both}
 use Rattle.loops.specs.Rounded.{_!_}
-use Rattle.loops.specs.Times.{times, range, range-length, range-frame, range-at}
 use Rattle.scalar.specs.Class.{isZero}
-use Rattle.matrix.specs.Sum.{Order, bare}
+use Rattle.matrix.specs.Sum.{bare}
 use Rattle.reflection.specs.Reflected.{reflected, reflectedRows}
 use Rattle.reflection.proofs.Frames.{reflected-length, reflected-frame, reflectedRows-length, reflectedRows-frame}
-use Rattle.householder.specs.Axis.{Way, Reflected, AllZero, TooSmall, factorOf, allZero, wayOf, inWay, axisOf}
-use Rattle.householder.proofs.Ways.{axis-length}
+use Rattle.householder.specs.Axis.{Way, Reflected, AllZero, TooSmall, wayOf, inWay}
+use Rattle.householder.proofs.Ways.{axis-length, axis-way, way-zero}
 use Rattle.pass.specs.Pair.{Pair, pair}
 use Rattle.pass.specs.Pass.{swept, sweptPast, reflectedAt, stepAt}
+use Rattle.pass.proofs.Swept.{swept-frame, swept-zero}
+use Rattle.pass.proofs.Lengths.{sweptPast-length}
 use Rattle.shape.specs.Vanished.{isTooSmall, tooSmall}
-use Rattle.shape.proofs.Zeros.{zero-is, cond-both}
-
--- ---- a column that is zero throughout
-
-zeros-to : (c : List Float) (n i : ℕ) → times (λ i b. b && isZero (c ! i)) n true ≡ true → i < n → isZero (c ! i) ≡ true
-unfolding times
-zeros-to c zero i h l = absurd (omega arith)
-zeros-to c (suc n) i h l = go (decLt i n) (times (λ i b. b && isZero (c ! i)) n true) refl (zeros-to c n i) h
-  where
-    go : Dec (i < n) → (b : Bool) → times (λ i b. b && isZero (c ! i)) n true ≡ b
-        → (times (λ i b. b && isZero (c ! i)) n true ≡ true → i < n → isZero (c ! i) ≡ true) → b && isZero (c ! n) ≡ true → isZero (c ! i) ≡ true
-    go d false e later k = absurd (false≢true k)
-    go (yes m) true e later k = later e m
-    go (no m) true e later k = let q : i ≡ n = omega arith in rw q k
-
--- the way "all zero" says so
-way-zero : (sum : Order) (c : List Float) (i : ℕ) → wayOf sum c ≡ AllZero → i < length c → isZero (c ! i) ≡ true
-unfolding wayOf allZero
-way-zero sum c i e l = zeros-to c (length c) i (go (isZero (factorOf sum c)) (allZero c) e) l
-  where
-    go : (f z : Bool) → cond f (cond z AllZero TooSmall) Reflected ≡ AllZero → z ≡ true
-    go true true h = refl
-    go true false h = cc
-    go false z h = cc
-
--- a column with a number is told by its way
-axis-way : (sum : Order) (c : List Float) → 0 < length c → axisOf sum c ≡ inWay sum c (wayOf sum c)
-unfolding axisOf
-axis-way sum c l = rw (ne-eqb (length c) 0 (λ e. omega arith))
-
--- ---- a column swept
-
-swept-length : (n k rows : ℕ) (x : Float) (t : List Float) → length (swept n k rows x t) ≡ length t
-unfolding swept
-swept-length n k rows x t = range-length _ _ _ _ (λ i s. simp length-set) ∙ simp length-set
-
--- only the rows from k to below k + rows of column k - 1 are touched
-swept-frame : (n k rows : ℕ) (x : Float) (t : List Float) (i j : ℕ) → i < n → k + rows ≤ n → 0 < rows → (j ≡ k - 1 → k ≤ i → i < k + rows → ⊥)
-    → swept n k rows x t ! place n i j ≡ t ! place n i j
-unfolding swept
-swept-frame n k rows x t i j h m some out =
-    range-frame _ (k + 1) (k + rows) _ (place n i j) nan
-    (λ i' u a b. getD-set-other u (place n i' (k - 1)) (place n i j) zeroF nan (places n i j i' (k - 1) h (omega arith) (λ e f. out f (omega arith) (omega arith))))
-    ∙ getD-set-other t (place n k (k - 1)) (place n i j) x nan (places n i j k (k - 1) h (omega arith) (λ e f. out f (omega arith) (omega arith)))
-
--- below its first row it is +0
-swept-zero : (n k rows : ℕ) (x : Float) (t : List Float) (i : ℕ) → length t ≡ n * n → k + rows ≤ n → k < i → i < k + rows
-    → isZero (swept n k rows x t ! place n i (k - 1)) ≡ true
-unfolding swept
-swept-zero n k rows x t i size m l h =
-    let put : ℕ → List Float → List Float = λ i t. set t (place n i (k - 1)) zeroF in
-    let before = range put (k + 1) i (set t (place n k (k - 1)) x) in
-    let same : length before ≡ n * n = range-length put (k + 1) i (set t (place n k (k - 1)) x) (λ i s. simp length-set) ∙ simp length-set size in
-    let at =
-    range-at put (k + 1) (k + rows) (set t (place n k (k - 1)) x) i (place n i (k - 1)) nan (omega arith) h
-    (λ i' u a b d. getD-set-other u (place n i' (k - 1)) (place n i (k - 1)) zeroF nan (places n i (k - 1) i' (k - 1) (omega arith) (omega arith) (λ e f. d (sym e)))) in
-    ap isZero (at ∙ getD-set-same before (place n i (k - 1)) zeroF nan (omega (arith, same, in-square n i (k - 1) (omega arith) (omega arith)))) ∙ zero-is
+use Rattle.shape.proofs.Zeros.{zero-is}
 
 -- ---- the step
 
@@ -110,8 +54,7 @@ module _ (n s e k rows : ℕ) (c t : List Float) (d : Step n s e k rows c t) whe
   past x = sweptPast s n k (length c) x t
 
   past-length : (x : Float) → length (past x) ≡ n * n
-  unfolding sweptPast
-  past-length x = cond-both (λ u. length u ≡ n * n) (leb k s) t (swept n k (length c) x t) (λ _. d .size) (λ _. swept-length n k (length c) x t ∙ d .size)
+  past-length x = sweptPast-length s n k (length c) x t ∙ d .size
 
   -- a column right of the one that is swept
   past-right : (x : Float) (i j : ℕ) → i < n → k ≤ j → past x ! place n i j ≡ t ! place n i j
@@ -142,7 +85,7 @@ module _ (n s e k rows : ℕ) (c t : List Float) (d : Step n s e k rows c t) whe
           let b = d .fits in
           let r = d .room in
           let q : j ≡ k - 1 = omega arith in
-          rw q (swept-zero n k (length c) x t i (d .size) (omega arith) (omega arith) v)
+          rw q (ap isZero (swept-zero n k (length c) x t i (d .size) (omega arith) (omega arith) v) ∙ zero-is)
       go p (no u) (no v) =
           let b = d .fits in
           let r = d .room in

@@ -12,11 +12,11 @@ use lib.Ieee.{Float}
 use Rattle.loops.specs.Constants.{zero as zeroF}
 use Rattle.loops.specs.Place.{place, in-square}
 use Rattle.loops.specs.Rounded.{_!_}
-use Rattle.loops.specs.Until.{until, until-hold}
+use Rattle.loops.specs.Until.{until-hold}
 use Rattle.scalar.specs.Class.{isZero}
 use Rattle.matrix.proofs.Fitting.{fitting}
 use Rattle.window.specs.declared.Window.{Window}
-use Rattle.window.specs.Window.{window, decoupled, Falling, falling, stands, fall, endFrom, cut, startFrom, Delimited, delimitHere, delimitOf}
+use Rattle.window.specs.Window.{window, decoupled, Falling, falling, stands, fall, endFrom, cut, startFrom, delimitHere, delimitOf}
 use Rattle.refusal.specs.Shape.{QuasiTriangular}
 use Rattle.shape.proofs.Zeros.{either-first, either-keeps, put-there, put-keeps}
 

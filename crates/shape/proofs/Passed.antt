@@ -1,34 +1,32 @@
 -- A pass in which no axis vanished: the bulge is made at the window's start, moves on step by step and is swept at its end, and no row below the window is
 -- touched. So T is zero two or more places below its diagonal again, and what was settled below the window still is. Assumes nothing.
-use Prim.Native.Nat.{ℕ, zero, suc, _+_, _-_, _*_, _<_, _≤_, min}
+use Prim.Native.Nat.{ℕ, zero, suc, _+_, _-_, _<_, _≤_, min}
 use mathlib.Core.Bool.{Bool, true, false}
-use mathlib.Core.Path.{_≡_, refl, sym, ap, _∙_, subst}
+use mathlib.Core.Path.{_≡_, refl, ap, _∙_, subst}
 use mathlib.Core.List.{List}
 use native.Mathlib.Nat.{add-zero}
 use native.Mathlib.Omega.{arith}
 use borrow.Author.Tests.{le-leb, lt-leb, eq-eqb, ne-eqb}
-use lib.Dec.{leb}
 use lib.ListN.{length}
 use lib.Ieee.{Float}
 use Rattle.loops.specs.First.{some-none}
 use Rattle.loops.specs.Place.{place}
 use Rattle.loops.specs.Rounded.{_!_}
-use Rattle.loops.specs.Times.{range, range-walk}
+use Rattle.loops.specs.Times.{range-walk}
 use Rattle.scalar.specs.Class.{isZero}
-use Rattle.matrix.specs.Fits.{blockFits}
 use Rattle.matrix.specs.Vectors.{two, three}
 use Rattle.matrix.specs.declared.vector.Vector3.{Vector3}
 use Rattle.matrix.proofs.Fitting.{fitting}
 use Rattle.window.specs.declared.Window.{Window}
 use Rattle.pass.specs.Pair.{Pair}
-use Rattle.pass.specs.Pass.{firstColumn, bulge, bulgeEnd, columnAt, stepAt, chased, closing, passHere, passOf}
+use Rattle.pass.specs.Pass.{firstColumn, bulge, bulgeEnd, columnAt, chased, closing, passHere, passOf}
 use Rattle.schur.specs.declared.run.State.{State}
 use Rattle.schur.specs.Run.{after, turnMore}
 use Rattle.shape.specs.Vanished.{tooSmall, passTo, axisColumn, passVanished}
 use Rattle.shape.proofs.Zeros.{either-keeps}
 use Rattle.shape.proofs.Delimited.{Settled, Open, delimit-sound}
 use Rattle.shape.proofs.Split.{SoundAt}
-use Rattle.shape.proofs.Bulge.{Step, Chased, step-chased}
+use Rattle.shape.proofs.Bulge.{Chased, step-chased}
 
 -- ---- a step
 

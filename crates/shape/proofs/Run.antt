@@ -1,7 +1,7 @@
 -- A run in which no axis vanished: every turn keeps what is settled, so where its window closes T has the shape, and a run that ends short of its budget
 -- has closed its window. Assumes nothing.
 use Prim.Native.Nat.{ℕ, _+_, _-_, _*_, _<_, _≤_}
-use mathlib.Core.Bool.{Bool, true, false, cond, true≢false}
+use mathlib.Core.Bool.{Bool, true, false, true≢false}
 use mathlib.Core.Path.{_≡_, refl, sym, ap, _∙_}
 use mathlib.Core.List.{List}
 use native.Mathlib.Decide.{decLt}
@@ -12,24 +12,25 @@ use lib.ListN.{length}
 use lib.Ieee.{Float}
 use Rattle.loops.specs.First.{some-none}
 use Rattle.loops.specs.Place.{place, in-square}
+use Rattle.loops.specs.Tests.{cond-both}
 use Rattle.loops.specs.Rounded.{_⊗_, _!_}
-use Rattle.loops.specs.Until.{until, until-walk}
+use Rattle.loops.specs.Until.{until-walk}
 use Rattle.scalar.specs.Class.{isZero, isFinite}
-use Rattle.matrix.specs.Vectors.{largest, scaled, unscaled}
-use Rattle.matrix.proofs.Each.{eachTo-length, eachTo-at}
+use Rattle.matrix.specs.Vectors.{largest, scaled}
+use Rattle.matrix.proofs.Each.{eachTo-at}
 use Rattle.hessenberg.specs.Reduced.{workFits, reduced}
 use Rattle.hessenberg.specs.Unpacked.{unpackedH}
 use Rattle.hessenberg.proofs.Frames.{reduced-length, reduced-work, unpackedH-length, unpackedH-zero}
 use Rattle.window.specs.Window.{window}
 use Rattle.pass.specs.Pair.{Pair, pair}
-use Rattle.schur.specs.declared.run.State.{State}
 use Rattle.schur.specs.declared.run.Ran.the-variants.{Ended}
 use Rattle.schur.specs.Run.{Running, closed, after, turnTwo, turnMore, turnOf, runFrom, scaledDown, reducedPair, opened, Left, answered, ranOf}
 use Rattle.schur.proofs.Counting.{opened-none}
+use Rattle.schur.proofs.Lengths.{scaledDown-length}
 use Rattle.refusal.specs.Shape.{QuasiTriangular}
-use Rattle.shape.specs.Vanished.{passVanished, turnVanished, runVanished, vanished}
-use Rattle.shape.proofs.Zeros.{zero-is, either-keeps, cond-both, times-keeps}
-use Rattle.shape.proofs.Delimited.{Settled, Sound, delimit-sound}
+use Rattle.shape.specs.Vanished.{turnVanished, runVanished, vanished}
+use Rattle.shape.proofs.Zeros.{zero-is, either-keeps, times-keeps}
+use Rattle.shape.proofs.Delimited.{Settled, delimit-sound}
 use Rattle.shape.proofs.Split.{SoundAt, two-sound}
 use Rattle.shape.proofs.Passed.{more-sound}
 
@@ -45,10 +46,6 @@ turn-sound wanted n eps r small still none z =
     (λ e. let more = leb-false (w .end) (w .start + 1) e in more-sound wanted n eps (r .state) (r .pair) small o (omega arith) (rw e at none))
 
 -- ---- the first state
-
-scaledDown-length : (t : List Float) → length (scaledDown t) ≡ length t
-unfolding scaledDown unscaled
-scaledDown-length t = cond-both (λ s. length s ≡ length t) (isZero (largest t)) t (unscaled (largest t) t) (λ _. refl) (λ _. eachTo-length _ _ t)
 
 -- H is +0 two or more places below its diagonal, and has no row below the last
 opened-settled : (n : ℕ) (t w : List Float) → n ≤ 64 → 1 ≤ n → length t ≡ n * n → length w ≡ 2 * n → Settled n (n - 1) (unpackedH n (reduced n t w .work) (reduced n t w .matrix))

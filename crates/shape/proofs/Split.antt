@@ -1,53 +1,26 @@
 -- A window of two: splitting it changes one entry below the diagonal, and so the end may fall by two. Assumes nothing.
 use Prim.Native.Nat.{ℕ, _+_, _-_, _*_, _<_, _≤_}
 use mathlib.Core.Bool.{Bool, true, _||_}
-use mathlib.Core.Path.{_≡_, refl, sym, ap, _∙_, subst}
+use mathlib.Core.Path.{_≡_, refl, ap, _∙_, subst}
 use mathlib.Core.List.{List}
 use native.Mathlib.Decide.{decLt}
 use native.Mathlib.Omega.{arith}
 use borrow.Author.Tests.{leb-true, leb-false}
 use lib.Dec.{leb}
 use lib.ListN.{length}
-use lib.Seq.{getD-set-other}
-use lib.Ieee.{Float, nan}
-use Rattle.loops.specs.Constants.{zero}
-use Rattle.loops.specs.Place.{place, places}
+use lib.Ieee.{Float}
+use Rattle.loops.specs.Place.{place}
 use Rattle.loops.specs.Rounded.{_!_}
-use Rattle.loops.specs.Tests.{cond-hold}
+use Rattle.loops.specs.Tests.{cond-both}
 use Rattle.scalar.specs.Class.{isZero}
-use Rattle.matrix.specs.Fits.{blockFits}
-use Rattle.matrix.proofs.Fitting.{fits}
-use Rattle.givens.specs.Rotation.{inverseOf}
-use Rattle.givens.specs.Rotated.{rotated, rotatedRows}
-use Rattle.givens.proofs.Frames.{rotated-frame, rotatedRows-frame}
 use Rattle.window.specs.Window.{window}
-use Rattle.pass.specs.declared.block.Basis.{Basis}
-use Rattle.pass.specs.declared.block.Basis.the-variants.{Rotate, Stand}
 use Rattle.pass.specs.Pair.{Pair}
-use Rattle.pass.specs.Block.{blockAt, basisOf, turnedBy, splitAt}
-use Rattle.pass.proofs.BlockFrames.{splitAt-length}
+use Rattle.pass.specs.Block.{splitAt}
+use Rattle.pass.proofs.BlockFrames.{splitAt-length, splitAt-frame}
 use Rattle.schur.specs.declared.run.State.{State}
 use Rattle.schur.specs.Run.{Running, after, turnTwo}
-use Rattle.shape.proofs.Zeros.{cond-both, either-first, either-second, either-keeps}
+use Rattle.shape.proofs.Zeros.{either-first, either-second, either-keeps}
 use Rattle.shape.proofs.Delimited.{Settled, Open, Sound, delimit-sound}
-
--- ---- of the entries below the diagonal only the block's own is changed
-
-turnedBy-frame : (wanted : Bool) (n k : ℕ) (b : Basis) (p : Pair) (i j : ℕ) → k + 2 ≤ n → i < n → j < i → (i ≡ k + 1 → j ≡ k → ⊥)
-    → turnedBy wanted n k b p .t ! place n i j ≡ p .t ! place n i j
-unfolding turnedBy
-turnedBy-frame wanted n k Stand p i j m h l out = refl
-turnedBy-frame wanted n k (Rotate r) p i j m h l out =
-    let rows = rotated (inverseOf r) n k k n (p .t) in
-    getD-set-other (rotatedRows r n k (k + 2) rows) (place n (k + 1) k) (place n i j) zero nan (places n i j (k + 1) k h (omega arith) out)
-    ∙ rotatedRows-frame r n k (k + 2) rows i j h (λ o. out (omega arith) (omega arith))
-    ∙ rotated-frame (inverseOf r) n k k n (p .t) i j h (λ o. out (omega arith) (omega arith))
-
-splitAt-frame : (wanted : Bool) (n k : ℕ) (p : Pair) (i j : ℕ) → i < n → j < i → (i ≡ k + 1 → j ≡ k → ⊥) → splitAt wanted n k p .t ! place n i j ≡ p .t ! place n i j
-unfolding splitAt
-splitAt-frame wanted n k p i j h l out =
-    cond-hold (λ r. r .t ! place n i j ≡ p .t ! place n i j) (blockFits n (length (p .t)) (k + 2) (k + 2)) _ p
-    (λ e. turnedBy-frame wanted n k (basisOf (blockAt n k (p .t))) p i j (fits n (length (p .t)) (k + 2) (k + 2) e .inRows) h l out) refl
 
 -- ---- what is settled then: t becomes u, and of the entries below the diagonal only that of row s + 1 and column s differs
 
@@ -124,6 +97,6 @@ two-sound wanted n eps s p small o l =
     cond-both (SoundAt n) (leb (s .window .end) 2) _ _
     (λ e. ends-sound n k (p .t) (splitAt wanted n k p .t) z (o .start) same size (let small-end = leb-true (s .window .end) 2 e in omega arith))
     (λ e.
-      let far = leb-false (s .window .end) 2 e in
-      let q : k - 1 ≡ s .window .end - 2 = omega arith in
-      delimit-sound n eps (s .window .end - 2) _ small (omega arith) (subst (λ e. Settled n e (splitAt wanted n k p .t)) q (split-settled n k (p .t) _ z (o .start) same (omega arith) size)))
+    let far = leb-false (s .window .end) 2 e in
+    let q : k - 1 ≡ s .window .end - 2 = omega arith in
+    delimit-sound n eps (s .window .end - 2) _ small (omega arith) (subst (λ e. Settled n e (splitAt wanted n k p .t)) q (split-settled n k (p .t) _ z (o .start) same (omega arith) size)))

@@ -1,6 +1,6 @@
 -- Zeros that stay zeros: +0 put somewhere, a multiple of a zero, and of two entries at least one. Assumes nothing.
-use Prim.Native.Nat.{ℕ, zero, suc, _*_, _<_, _≤_}
-use mathlib.Core.Bool.{Bool, true, false, Bool·beq, cond, _||_, false≢true}
+use Prim.Native.Nat.{ℕ, zero, suc, _*_, _<_}
+use mathlib.Core.Bool.{Bool, true, false, Bool·beq, _||_, false≢true}
 use mathlib.Core.Path.{_≡_, refl, sym, ap, _∙_}
 use mathlib.Core.List.{List}
 use native.Mathlib.Decide.{decLt}
@@ -43,11 +43,6 @@ either-second false b h = h
 pub either-keeps : (a b c d : Bool) → (a ≡ true → c ≡ true) → (b ≡ true → d ≡ true) → (a || b) ≡ true → (c || d) ≡ true
 either-keeps true b c d f g h = either-first c d (f refl)
 either-keeps false b c d f g h = either-second c d (g h)
-
--- what holds of both answers of a test, each where it is taken
-pub cond-both : {A : Type 0} (P : A → Type 0) (b : Bool) (x y : A) → (b ≡ true → P x) → (b ≡ false → P y) → P (cond b x y)
-cond-both P true x y h k = h refl
-cond-both P false x y h k = k refl
 
 -- ---- +0 put somewhere
 

@@ -5,6 +5,7 @@ use lib.ListN.{length}
 use Rattle.pass.specs.Pair.{pair}
 use Rattle.decomposition.proofs.Passing.{Lent, all-right, all-lent}
 use Rattle.decomposition.proofs.Count.{count-below}
+use Rattle.decomposition.proofs.Shape.{shape-held}
 use Rattle.decomposition.proofs.Touched.{untouched, run-judged}
 use Rattle.decomposition.proofs.try_new.Statement.{statement}
 use Rattle.decomposition.proofs.try_new.Tie as tie
@@ -20,13 +21,13 @@ decompose-requires : tie.Need-decompose-requires
 decompose-requires c κs = let l = lent (c .before .before .before) in (l .alike, l .fits)
 
 returns : tie.Need-returns
-returns c = (sym (untouched _ _ _ _ _ (pair _ _) _ (sym (c .before .before .before .check-arguments .ensures) ∙ c .before .r .given .1)), tt)
+returns c = (sym (untouched _ _ _ _ _ (pair _ _) _ (sym (c .before .before .before .check-arguments .ensures) ∙ c .before .r .given .1)), (tt, tt))
 
 returns-2 : tie.Need-returns-2
 returns-2 c =
     let passed = sym (c .before .before .before .before .before .before .before .before .before .before .before .before .check-arguments .ensures) ∙ c .before .before .before .before .before .before .before .before .before .before .enum-told .given .1 in
     let whole = c .before .before .before .before .before .before .decompose .ensures ∙ sym (run-judged _ _ _ _ _ (pair _ _) _ passed) in
-    (whole, count-below _ _ _ _ _ _ _ _ (ap (λ o. o .answer) whole))
+    (whole, (count-below _ _ _ _ _ _ _ _ (ap (λ o. o .answer) whole), shape-held _ _ _ _ _ _ _ _ _ (ap (λ o. o .answer) whole) (ap (λ o. o .pair .t) whole)))
 
 pub try-new-spec : {M : Type 1} → statement M
 try-new-spec = tie.close (tie.spec (λ c κs. search needs) (λ c. search needs) (λ c. search needs) decompose-requires returns

@@ -5,7 +5,7 @@ use mathlib.Core.Bool.{not, true, false}
 use mathlib.Core.Path.{_≡_, refl, sym, ap, _∙_}
 use lib.ListN.{length}
 use Rattle.loops.specs.Until.{until, until-out, until-stop, until-turn}
-use Rattle.window.specs.Window.{small, falling, stands, fall, endFrom}
+use Rattle.window.specs.Window.{falling, stands, fall, endFrom}
 use Rattle.window.proofs.delimit_end.Statement.{statement}
 use Rattle.window.proofs.delimit_end.Tie as tie
 

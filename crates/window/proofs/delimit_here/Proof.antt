@@ -1,7 +1,5 @@
 -- `window::delimit_here` meets its contract. Assumes nothing.
 use native.Mathlib.Omega.{arith}
-use mathlib.Core.Path.{_≡_, sym, ap, _∙_}
-use Rattle.window.specs.Window.{falling, endFrom, delimited}
 use Rattle.window.proofs.Delimiting.{delimit-closed, delimit-open, delimit-cut}
 use Rattle.window.proofs.delimit_here.Statement.{statement}
 use Rattle.window.proofs.delimit_here.Tie as tie

@@ -21,7 +21,7 @@ returns c =
     let x = c .before .before .before .before .before .before .before .before .before .before .before .before .before .before .before .before .before .before .before .args in
     let pre = c .before .before .before .before .before .before .before .before .before .before .before .before .before .before .before .before .before .before .before .pre in
     real-read _ _ _ _ _ _ _ _ _ (pre .0) (decoded (x .t .now) (x .a .now) _ (fit (c .before .before .before .before .before .before .before .before .before .before .before .before .before .before .before .before .before .before .before) .matrix) (pre .1) (c .before .before .before .before .before .before .before .before .before .before .before .before .before .decode .ensures)) (pre .2)
-    (c .before .before .before .before .before .before .before .before .eigenvalues .ensures) (c .before .before .before .write-list .ensures) (c .checked-number .ensures)
+    (c .before .before .before .before .before .before .before .before .eigenvalues .ensures .0) (c .before .before .before .write-list .ensures) (c .checked-number .ensures)
 
 pub real-on-floats-spec : {M : Type 1} → statement M
 real-on-floats-spec = tie.close (tie.spec (λ c κs. omega arith) (λ c κs. omega arith) write-list-requires (λ c κs. omega arith)

@@ -1,6 +1,5 @@
 -- `pass::shift::step3` meets its contract. Assumes nothing.
 use native.Mathlib.Omega.{arith}
-use mathlib.Core.Path.{_≡_, sym, ap, _∙_}
 use borrow.Author.Tests.{not-true, not-false}
 use Rattle.pass.specs.Pass.{stepAt}
 use Rattle.pass.proofs.shift.step3.Statement.{statement}
