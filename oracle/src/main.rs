@@ -16,6 +16,7 @@ mod leaves;
 mod model;
 mod numbers;
 mod options;
+mod outcomes;
 mod random;
 mod root;
 mod scalar;
@@ -51,6 +52,7 @@ const COMMANDS: &[(&str, &str, Run)] = &[
         compare::run,
     ),
     ("leaves", "[--write]", leaves::run),
+    ("outcomes", "[--write]", outcomes::run),
     ("root", "[--count MILLIONS] [--seed HEX]", root::run),
     ("scalar", "[--write]", scalar::run),
     ("speed", "[--repeat TIMES] [--seed HEX]", speed::run),

@@ -1,0 +1,1 @@
+// No code: the matrices with known outcomes are in specs/.
