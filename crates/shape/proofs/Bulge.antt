@@ -35,34 +35,33 @@ use Rattle.shape.proofs.Zeros.{zero-is}
 abbrev pub Bulging : ℕ → ℕ → ℕ → ℕ → List Float → Type 0
 Bulging n s e k t = (i j : ℕ) → i < n → j + 2 ≤ i → (s < k → k ≤ j + 1 → i ≤ k + 2 → i ≤ e → ⊥) → isZero (t ! place n i j) ≡ true
 
--- what such a step works on: the column c of two or three numbers, which past the first step is the bulge's, and the first `rows` rows
-pub record Step (n s e k rows : ℕ) (c t : List Float) : Type 0 where
-  pub size : length t ≡ n * n
+-- where such a step reaches, by a column of two or three numbers and in the first `rows` rows: to the window's end, and over all of the bulge in column k - 1
+pub record Reach (n s e k rows len : ℕ) : Type 0 where
   pub begun : s ≤ k
   pub room : e < n
-  pub some : 0 < length c
-  pub short : length c ≤ 3
-  pub fits : k + length c ≤ e + 1
-  pub covers : (i : ℕ) → i ≤ k + 2 → i ≤ e → i < k + length c
+  pub some : 0 < len
+  pub short : len ≤ 3
+  pub fits : k + len ≤ e + 1
+  pub covers : (i : ℕ) → i ≤ k + 2 → i ≤ e → i < k + len
   pub near : rows ≤ k + 4
   pub within : rows ≤ e + 1
-  pub holds : s < k → (m : ℕ) → m < length c → c ! m ≡ t ! place n (k + m) (k - 1)
 
-module _ (n s e k rows : ℕ) (c t : List Float) (d : Step n s e k rows c t) where
+-- past the first step the column is the bulge's
+abbrev pub Column : ℕ → ℕ → ℕ → List Float → List Float → Type 0
+Column n s k c t = s < k → (m : ℕ) → m < length c → c ! m ≡ t ! place n (k + m) (k - 1)
+
+module _ (n s e k rows : ℕ) (c t : List Float) (d : Reach n s e k rows (length c)) (size : length t ≡ n * n) where
   -- T after the sweep
   abbrev past : Float → List Float
   past x = sweptPast s n k (length c) x t
 
   past-length : (x : Float) → length (past x) ≡ n * n
-  past-length x = sweptPast-length s n k (length c) x t ∙ d .size
+  past-length x = sweptPast-length s n k (length c) x t ∙ size
 
   -- a column right of the one that is swept
   past-right : (x : Float) (i j : ℕ) → i < n → k ≤ j → past x ! place n i j ≡ t ! place n i j
   unfolding sweptPast
   past-right x i j h l =
-      let a = d .begun in
-      let b = d .fits in
-      let r = d .room in
       cond-both (λ u. u ! place n i j ≡ t ! place n i j) (leb k s) t (swept n k (length c) x t) (λ _. refl)
       (λ e. let past-first = leb-false k s e in swept-frame n k (length c) x t i j h (omega arith) (d .some) (λ u v w. omega arith))
 
@@ -70,25 +69,17 @@ module _ (n s e k rows : ℕ) (c t : List Float) (d : Step n s e k rows c t) whe
   past-left : (x : Float) → Bulging n s e k t → (i j : ℕ) → i < n → j + 2 ≤ i → j < k → isZero (past x ! place n i j) ≡ true
   unfolding sweptPast
   past-left x z i j h l m =
-      let b = d .fits in
-      let r = d .room in
       cond-both (λ u. isZero (u ! place n i j) ≡ true) (leb k s) t (swept n k (length c) x t)
       (λ e. let first = leb-true k s e in z i j h l (λ u _ _ _. omega arith))
       (λ e. go (leb-false k s e) (decLt (j + 1) k) (decLt i (k + length c)))
     where
       go : s < k → Dec (j + 1 < k) → Dec (i < k + length c) → isZero (swept n k (length c) x t ! place n i j) ≡ true
       go p (yes u) v =
-          let b = d .fits in
-          let r = d .room in
           ap isZero (swept-frame n k (length c) x t i j h (omega arith) (d .some) (λ o _ _. omega arith)) ∙ z i j h l (λ _ o _ _. omega arith)
       go p (no u) (yes v) =
-          let b = d .fits in
-          let r = d .room in
           let q : j ≡ k - 1 = omega arith in
-          rw q (ap isZero (swept-zero n k (length c) x t i (d .size) (omega arith) (omega arith) v) ∙ zero-is)
+          rw q (ap isZero (swept-zero n k (length c) x t i size (omega arith) (omega arith) v) ∙ zero-is)
       go p (no u) (no v) =
-          let b = d .fits in
-          let r = d .room in
           ap isZero (swept-frame n k (length c) x t i j h (omega arith) (d .some) (λ _ _ o. omega arith)) ∙ z i j h l (λ _ _ o w. v (d .covers i o w))
 
   -- both sides reflected by an axis of that length
@@ -106,23 +97,19 @@ module _ (n s e k rows : ℕ) (c t : List Float) (d : Step n s e k rows c t) whe
     where
       -- a row that neither side reaches
       off : k ≤ j → (k + 3 < i → ⊥) → (e < i → ⊥) → ⊥
-      off u v w = let b = d .begun in out (omega arith) (omega arith) (omega arith) (omega arith)
+      off u v w = out (omega arith) (omega arith) (omega arith) (omega arith)
 
       go : Dec (j < k) → Dec (e < i) → Dec (k + 3 < i) → isZero (mirrored a (past x) ! place n i j) ≡ true
       go (yes u) v w = ap isZero (mirrored-frame a (past x) i j q h (λ o _. omega arith) (λ o _ _. omega arith)) ∙ past-left x z i j h l u
       go (no u) (yes v) w =
-          let b = d .fits in
-          let f = d .within in
           ap isZero (mirrored-frame a (past x) i j q h (λ _ o. omega arith) (λ _ _ o. omega arith) ∙ past-right x i j h (omega arith)) ∙ z i j h l (λ _ _ _ o. omega arith)
       go (no u) (no v) (yes w) =
-          let b = d .short in
-          let f = d .near in
           ap isZero (mirrored-frame a (past x) i j q h (λ _ o. omega arith) (λ _ _ o. omega arith) ∙ past-right x i j h (omega arith)) ∙ z i j h l (λ _ _ o _. omega arith)
       go (no u) (no v) (no w) = absurd (off (omega arith) w v)
 
   -- no reflection, since the column is zero throughout
-  still-bulge : ((m : ℕ) → m < length c → isZero (c ! m) ≡ true) → Bulging n s e k t → Bulging n s e (k + 1) t
-  still-bulge zeros z i j h l out = go (decLt s k) (decLt (j + 1) k) (decLt (k + 2) i) (decLt e i)
+  still-bulge : Column n s k c t → ((m : ℕ) → m < length c → isZero (c ! m) ≡ true) → Bulging n s e k t → Bulging n s e (k + 1) t
+  still-bulge holds zeros z i j h l out = go (decLt s k) (decLt (j + 1) k) (decLt (k + 2) i) (decLt e i)
     where
       go : Dec (s < k) → Dec (j + 1 < k) → Dec (k + 2 < i) → Dec (e < i) → isZero (t ! place n i j) ≡ true
       go (no u) v w y = z i j h l (λ o _ _ _. u o)
@@ -136,7 +123,7 @@ module _ (n s e k rows : ℕ) (c t : List Float) (d : Step n s e k rows c t) whe
               let a : j ≡ k - 1 = omega arith in
               let b : k + (i - k) ≡ i = omega arith in
               let inside : i < k + length c = d .covers i (omega arith) (omega arith) in
-              let at = d .holds u (i - k) (omega arith) in
+              let at = holds u (i - k) (omega arith) in
               rw a (rw (at, b) at (zeros (i - k) (omega arith)))
           column (no x) = absurd (out (omega arith) (omega arith) (omega arith) (omega arith))
 
@@ -144,15 +131,11 @@ module _ (n s e k rows : ℕ) (c t : List Float) (d : Step n s e k rows c t) whe
   past-below : (x : Float) (i j : ℕ) → i < n → e < i → past x ! place n i j ≡ t ! place n i j
   unfolding sweptPast
   past-below x i j h l =
-      let b = d .fits in
-      let r = d .room in
       cond-both (λ u. u ! place n i j ≡ t ! place n i j) (leb k s) t (swept n k (length c) x t) (λ _. refl)
       (λ _. swept-frame n k (length c) x t i j h (omega arith) (d .some) (λ _ _ o. omega arith))
 
   made-below : (a : List Float) (x : Float) (i j : ℕ) → length a ≡ length c → i < n → e < i → mirrored a (past x) ! place n i j ≡ t ! place n i j
   made-below a x i j q h l =
-      let b = d .fits in
-      let f = d .within in
       mirrored-frame a (past x) i j q h (λ _ o. omega arith) (λ _ _ o. omega arith) ∙ past-below x i j h l
 
 -- what holds of T as it was, if the column is zero throughout, and of T swept and reflected, holds after the step
@@ -182,13 +165,13 @@ pub record Chased (n s e k : ℕ) (t₀ t : List Float) : Type 0 where
   pub bulge : Bulging n s e k t
   pub below : (i j : ℕ) → i < n → e < i → t ! place n i j ≡ t₀ ! place n i j
 
-pub step-chased : (wanted : Bool) (n s e k rows : ℕ) (c t₀ : List Float) (p : Pair) → Step n s e k rows c (p .t) → tooSmall c ≡ false → Chased n s e k t₀ (p .t)
-    → Chased n s e (k + 1) t₀ (stepAt wanted n s k rows c p .t)
-step-chased wanted n s e k rows c t₀ p d h z =
+pub step-chased : (wanted : Bool) (n s e k rows : ℕ) (c t₀ : List Float) (p : Pair) → Reach n s e k rows (length c) → Column n s k c (p .t) → tooSmall c ≡ false
+    → Chased n s e k t₀ (p .t) → Chased n s e (k + 1) t₀ (stepAt wanted n s k rows c p .t)
+step-chased wanted n s e k rows c t₀ p d holds h z =
     step-hold (Chased n s e (k + 1) t₀) wanted n s k rows c p (d .some) h
-    (λ zeros. record { size = z .size; bulge = still-bulge n s e k rows c (p .t) d zeros (z .bulge); below = z .below })
+    (λ zeros. record { size = z .size; bulge = still-bulge n s e k rows c (p .t) d (z .size) holds zeros (z .bulge); below = z .below })
     (λ a x q. record {
-      size = reflectedRows-length _ _ _ _ _ _ ∙ reflected-length _ _ _ _ _ _ _ _ ∙ past-length n s e k rows c (p .t) d x;
-      bulge = made-bulge n s e k rows c (p .t) d a x q (z .bulge);
-      below = λ i j u v. made-below n s e k rows c (p .t) d a x i j q u v ∙ z .below i j u v;
+      size = reflectedRows-length _ _ _ _ _ _ ∙ reflected-length _ _ _ _ _ _ _ _ ∙ past-length n s e k rows c (p .t) d (z .size) x;
+      bulge = made-bulge n s e k rows c (p .t) d (z .size) a x q (z .bulge);
+      below = λ i j u v. made-below n s e k rows c (p .t) d (z .size) a x i j q u v ∙ z .below i j u v;
     })

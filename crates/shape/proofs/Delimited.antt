@@ -77,7 +77,7 @@ end-fallen : (n : ℕ) (eps : Float) (e : ℕ) (t : List Float) → Settled n e 
 unfolding endFrom fall
 end-fallen n eps e t s =
     until-hold (Fallen n e) (stands n eps) (fall n) e (falling e t)
-    (λ f h. let u = h .upto in record { upto = omega arith; settled = fall-settled n (f .end) (f .t) (h .settled) })
+    (λ f h. record { upto = omega arith; settled = fall-settled n (f .end) (f .t) (h .settled) })
     (record { upto = omega arith; settled = s })
 
 -- ---- the start
@@ -127,6 +127,5 @@ pub delimit-sound : (n : ℕ) (eps : Float) (e : ℕ) (t : List Float) → n ≤
 unfolding delimitOf delimitHere
 delimit-sound n eps e t small l s =
     let f = end-fallen n eps e t s in
-    let u = f .upto in
     rw (fitting n (length t) (e + 1) (e + 1) small (s .size) (omega arith) (omega arith))
     (cut-off n (startFrom n eps (endFrom n eps e t .end) (endFrom n eps e t .t)) (endFrom n eps e t .t) (endFrom n eps e t .end) _ refl (f .settled) (start-before n eps _ _) (omega arith))

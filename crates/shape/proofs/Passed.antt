@@ -65,43 +65,17 @@ module _ (wanted : Bool) (n : ℕ) (w : Window) (p : Pair) (o : Open n w (p .t))
   chased-on : (k : ℕ) → s ≤ k → k < e - 1 → Chased n s e k (p .t) (before k .t) → Chased n s e (k + 1) (p .t) (chased wanted n (firstColumn n s e (p .t)) s e k (before k) .t)
   unfolding chased before axisColumn
   chased-on k a b z =
-      let r = o .room in
       let far : axisColumn wanted n w p k ≡ three (columnAt (firstColumn n s e (p .t)) n s k (before k .t)) = rw (ne-eqb k (e - 1) (λ q. omega arith)) in
       step-chased wanted n s e k (min (k + 4) (e + 1)) (three (columnAt (firstColumn n s e (p .t)) n s k (before k .t))) (p .t) (before k)
-      (record {
-        size = z .size;
-        begun = a;
-        room = r;
-        some = omega arith;
-        short = omega arith;
-        fits = omega arith;
-        covers = λ i u v. omega arith;
-        near = omega arith;
-        within = omega arith;
-        holds = λ l m h. bulge-holds (firstColumn n s e (p .t)) n s k (before k .t) l m h;
-      })
-      (rw far at (no-axis k a (omega arith))) z
+      (omega arith) (bulge-holds (firstColumn n s e (p .t)) n s k (before k .t)) (rw far at (no-axis k a (omega arith))) z
 
   -- the last step, by two
   closed-off : Chased n s e (e - 1) (p .t) (before (e - 1) .t) → Chased n s e (e - 1 + 1) (p .t) (closing wanted n s e (before (e - 1)) .t)
   unfolding closing before axisColumn
   closed-off z =
-      let r = o .room in
       let last : axisColumn wanted n w p (e - 1) ≡ two (bulgeEnd n (e - 1) (before (e - 1) .t)) = rw (eq-eqb (e - 1) (e - 1) refl) in
       step-chased wanted n s e (e - 1) (e + 1) (two (bulgeEnd n (e - 1) (before (e - 1) .t))) (p .t) (before (e - 1))
-      (record {
-        size = z .size;
-        begun = omega arith;
-        room = r;
-        some = omega arith;
-        short = omega arith;
-        fits = omega arith;
-        covers = λ i u v. omega arith;
-        near = omega arith;
-        within = omega arith;
-        holds = λ l m h. end-holds n (e - 1) (before (e - 1) .t) m h;
-      })
-      (rw last at (no-axis (e - 1) (omega arith) (omega arith))) z
+      (omega arith) (λ _. end-holds n (e - 1) (before (e - 1) .t)) (rw last at (no-axis (e - 1) (omega arith) (omega arith))) z
 
   here-chased : Chased n s e e (p .t) (passHere wanted n w p .t)
   unfolding passHere before passTo
@@ -114,7 +88,7 @@ module _ (wanted : Bool) (n : ℕ) (w : Window) (p : Pair) (o : Open n w (p .t))
 
   pass-is-here : n ≤ 64 → passOf wanted n w p ≡ passHere wanted n w p
   unfolding passOf
-  pass-is-here small = let r = o .room in rw (fitting n (length (p .t)) (e + 1) (e + 1) small (o .settled .size) (omega arith) (omega arith), le-leb (s + 2) e three-rows)
+  pass-is-here small = rw (fitting n (length (p .t)) (e + 1) (e + 1) small (o .settled .size) (omega arith) (omega arith), le-leb (s + 2) e three-rows)
 
   pub pass-settled : n ≤ 64 → Settled n e (passOf wanted n w p .t)
   pass-settled small =

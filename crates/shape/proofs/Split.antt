@@ -88,8 +88,6 @@ pub two-sound : (wanted : Bool) (n : ℕ) (eps : Float) (s : State) (p : Pair) �
 unfolding turnTwo after
 two-sound wanted n eps s p small o l =
     let k = s .window .start in
-    let h = o .order in
-    let room = o .room in
     let two : s .window .end ≡ k + 1 = omega arith in
     let z : Settled n (k + 1) (p .t) = subst (λ e. Settled n e (p .t)) two (o .settled) in
     let same = splitAt-frame wanted n k p in
