@@ -5,6 +5,7 @@ use mathlib.Core.Bool.{Bool, true, false, cond, _&&_}
 use mathlib.Core.Path.{_≡_, refl, sym, ap, _∙_, subst}
 use mathlib.Core.List.{List, []}
 use native.Mathlib.Omega.{arith}
+use borrow.Author.Tests.{eqb-true, ne-eqb}
 use lib.Dec.{eqb}
 use lib.ListN.{length}
 use lib.Ieee.{Float}
@@ -25,7 +26,7 @@ use Rattle.decomposition.specs.declared.Decomposed.the-variants.{Accepted, Decl
 use Rattle.decomposition.specs.Decomposition.{Outcome, judged, decompositionOf}
 use Rattle.decomposition.proofs.Passing.{right-passed}
 use Rattle.decomposition.proofs.Touched.{checksOf}
-use Rattle.decomposition.proofs.Count.{refused-reached}
+use Rattle.decomposition.proofs.Count.{refused-reached, reached-refused}
 use Rattle.eigenvalues.specs.Plain.{plainChecks, plainTwo, plainBudget, complexChecked, plainRun, plainRead, listed, plainBegun, plainOf}
 use Rattle.eigenvalues.proofs.Plainly.{plain-right, plain-fit, plain-judged}
 
@@ -102,3 +103,16 @@ module _ (n : ℕ) (m values w : List Float) where
   plain-reached e =
       let a = plain-run (λ f. f .0 refl) e in
       refused-reached false n epsilon plainBudget m (pair m []) w (plain-passed (a .0)) (a .1)
+
+  -- and whenever it is: order 2 counts none
+  two-counts : eqb n 2 ≡ true → countOf false n epsilon plainBudget (pair m []) w ≡ 0
+  unfolding countOf
+  two-counts k = let e : n ≡ 2 = eqb-true n 2 k in rw (k, ne-eqb n 1 (λ q. omega arith))
+
+  pub reached-plain : checks ≡ Passed → countOf false n epsilon plainBudget (pair m []) w ≡ plainBudget → answer ≡ Refused BudgetReached
+  unfolding complexChecked
+  reached-plain h e = go (eqb n 2) refl
+    where
+      go : (b : Bool) → eqb n 2 ≡ b → answer ≡ Refused BudgetReached
+      go true k = absurd (omega (arith, two-counts k))
+      go false k = plain-is h k ∙ ap (λ a. complexChecked a n (decomposed .pair .t)) (reached-refused false n epsilon plainBudget m (pair m []) w (plain-passed h) e)

@@ -5,7 +5,7 @@ use mathlib.Core.List.{List}
 use lib.Dec.{ltb, eqb}
 use lib.ListN.{length}
 use lib.Ieee.{Float}
-use Rattle.loops.specs.First.{first}
+use Rattle.loops.specs.First.{some}
 use Rattle.loops.specs.Place.{place}
 use Rattle.loops.specs.Rounded.{_!_}
 use Rattle.loops.specs.Table.{table}
@@ -29,7 +29,7 @@ readable lengths n t =
 
 -- some block of two stands
 unfoldable pub anyPaired : ℕ → List Float → Bool
-anyPaired n t = ltb (first (paired n t) n) n
+anyPaired n t = some (paired n t) 0 n
 
 unfoldable pub realChecks : Bool → ℕ → List Float → Checked
 realChecks lengths n t = readable lengths n t next refuse (anyPaired n t) ComplexEigenvalues

@@ -51,7 +51,7 @@ copies x n = times (λ _ l. x ∷ l) n []
 unfoldable pub lent : ℕ → List ℕ
 lent = copies 0x3ff0_0000_0000_0000
 
--- ---- from the one to the other
+-- ---- what comes of a call, by the definitions that the entries are proved equal to
 
 unfoldable pub refused : Refusal → Says
 refused r = let x = toldOf r in Refused (x .number) (x .row) (x .col)

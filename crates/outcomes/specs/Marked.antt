@@ -10,12 +10,12 @@ use Rattle.outcomes.specs.Call.{Call, Says, Answer, answer, copies, lent
 use Rattle.outcomes.specs.Call.{Decompose, Real, Complex, Passes, Read, Refused}
 
 -- a call, and what is to come of it
-pub record Row : Type 0 where
+pub record Line : Type 0 where
   pub call : Call
   pub answer : Answer
 
-row : Call → Says → List (List ℕ) → Row
-row call says memory = record { call = call; answer = answer says memory }
+line : Call → Says → List (List ℕ) → Line
+line call says memory = record { call = call; answer = answer says memory }
 
 -- ---- numbers, by their patterns
 
@@ -96,149 +96,149 @@ untouched : ℕ → List (List ℕ)
 untouched n = lent (n * n) ∷ lent (n * n) ∷ lent (2 * n) ∷ []
 
 -- refused after it: 7, 8 and 9
-spoilt : ℕ → List (List ℕ)
-spoilt n = left n (copies nan (n * n)) (copies nan (n * n))
+spoiled : ℕ → List (List ℕ)
+spoiled n = left n (copies nan (n * n)) (copies nan (n * n))
 
--- ---- what is to be shown of rows, and every definition that is computed with
+-- ---- what is to be shown of lines, and every definition that is computed with
 
-pub record Holds (rows : List Row) : Type 0 where
-  pub all : map (λ r. answerOf (r .call)) rows ≡ map (λ r. r .answer) rows
+pub record Holds (lines : List Line) : Type 0 where
+  pub all : map (λ x. answerOf (x .call)) lines ≡ map (λ x. x .answer) lines
 
 infixl 5 _then_
-_then_ : {x y : List Row} → Holds x → Holds y → Holds (x ++ y)
-_then_ {x} {y} h k = record { all = map-append _ x y ∙ ap (λ l. l ++ map (λ r. answerOf (r .call)) y) (h .all) ∙ ap (λ l. map (λ r. r .answer) x ++ l) (k .all) ∙ sym (map-append _ x y) }
+_then_ : {x y : List Line} → Holds x → Holds y → Holds (x ++ y)
+_then_ {x} {y} h k = record { all = map-append _ x y ∙ ap (λ l. l ++ map (λ x. answerOf (x .call)) y) (h .all) ∙ ap (λ l. map (λ x. x .answer) x ++ l) (k .all) ∙ sym (map-append _ x y) }
 
-unfoldable opened : Unit {0}
+unfoldable openedMarked : Unit {0}
 unfolding openedPlain copies lent refused decomposes reads answerOf
-    row one minusOne two four five minusZero nan huge usual zeros spaced diagonal identity J twice thenTwo thenJ below left untouched spoilt
-opened = tt
+    line one minusOne two four five minusZero nan huge usual zeros spaced diagonal identity J twice thenTwo thenJ below left untouched spoiled
+openedMarked = tt
 
 -- ---- the items
 
 -- order 1, entry 5: T 5, Q 1, passes 0
-a : List Row
-a = row (Decompose 1 usual 1 (five ∷ [])) (Passes 0) (left 1 (five ∷ []) (one ∷ [])) ∷ []
+a : List Line
+a = line (Decompose 1 usual 1 (five ∷ [])) (Passes 0) (left 1 (five ∷ []) (one ∷ [])) ∷ []
 
 a-holds : Holds a
-unfolding opened a
+unfolding openedMarked a
 a-holds = record { all = refl }
 
 -- J: T is J; real reader 10; complex reader 0+1i, 0-1i
-b : List Row
-b = row (Decompose 2 usual 1 J) (Passes 0) (left 2 J (identity 2))
-    ∷ row (Real 2 J) (Refused 10 0 0) (lent 2 ∷ [])
-    ∷ row (Complex 2 J) Read ((0 ∷ 0 ∷ []) ∷ (one ∷ minusOne ∷ []) ∷ []) ∷ []
+b : List Line
+b = line (Decompose 2 usual 1 J) (Passes 0) (left 2 J (identity 2))
+    ∷ line (Real 2 J) (Refused 10 0 0) (lent 2 ∷ [])
+    ∷ line (Complex 2 J) Read ((0 ∷ 0 ∷ []) ∷ (one ∷ minusOne ∷ []) ∷ []) ∷ []
 
 b-holds : Holds b
-unfolding opened b
+unfolding openedMarked b
 b-holds = record { all = refl }
 
 -- order 3, zeros: T zeros, passes 0 at budget 1
-c : List Row
-c = row (Decompose 3 usual 1 (zeros 9)) (Passes 0) (left 3 (zeros 9) (identity 3)) ∷ []
+c : List Line
+c = line (Decompose 3 usual 1 (zeros 9)) (Passes 0) (left 3 (zeros 9) (identity 3)) ∷ []
 
 c-holds : Holds c
-unfolding opened c
+unfolding openedMarked c
 c-holds = record { all = refl }
 
 -- diagonal 1, 2, 4: eigenvalues 1, 2, 4, passes 0
-d : List Row
+d : List Line
 d = let values = one ∷ two ∷ four ∷ [] in
     let t = diagonal values in
-    row (Decompose 3 usual 1 t) (Passes 0) (left 3 t (identity 3)) ∷ row (Real 3 t) Read (values ∷ []) ∷ row (Complex 3 t) Read (values ∷ zeros 3 ∷ []) ∷ []
+    line (Decompose 3 usual 1 t) (Passes 0) (left 3 t (identity 3)) ∷ line (Real 3 t) Read (values ∷ []) ∷ line (Complex 3 t) Read (values ∷ zeros 3 ∷ []) ∷ []
 
 d-holds : Holds d
-unfolding opened d
+unfolding openedMarked d
 d-holds = record { all = refl }
 
 -- J then 2 on the diagonal: passes 0, accepted at budget 1
-e : List Row
-e = row (Decompose 3 usual 1 (thenTwo 0)) (Passes 0) (left 3 (thenTwo minusZero) (diagonal (one ∷ one ∷ minusOne ∷ []))) ∷ []
+e : List Line
+e = line (Decompose 3 usual 1 (thenTwo 0)) (Passes 0) (left 3 (thenTwo minusZero) (diagonal (one ∷ one ∷ minusOne ∷ []))) ∷ []
 
 e-holds : Holds e
-unfolding opened e
+unfolding openedMarked e
 e-holds = record { all = refl }
 
 -- J twice, order 4: budget 1 gives 7; budget 2 accepts, passes 1
-f : List Row
-f = row (Decompose 4 usual 1 (twice 0)) (Refused 7 0 0) (spoilt 4)
-    ∷ row (Decompose 4 usual 2 (twice 0)) (Passes 1) (left 4 (twice minusZero) (diagonal (one ∷ one ∷ minusOne ∷ minusOne ∷ []))) ∷ []
+f : List Line
+f = line (Decompose 4 usual 1 (twice 0)) (Refused 7 0 0) (spoiled 4)
+    ∷ line (Decompose 4 usual 2 (twice 0)) (Passes 1) (left 4 (twice minusZero) (diagonal (one ∷ one ∷ minusOne ∷ minusOne ∷ []))) ∷ []
 
 f-holds : Holds f
-unfolding opened f
+unfolding openedMarked f
 f-holds = record { all = refl }
 
 -- diagonal 1, 2, then J: budget 1 gives 7 though the window has closed; budget 2 accepts, passes 1
-g : List Row
-g = row (Decompose 4 usual 1 thenJ) (Refused 7 0 0) (spoilt 4)
-    ∷ row (Decompose 4 usual 2 thenJ) (Passes 1) (left 4 thenJ (identity 4)) ∷ []
+g : List Line
+g = line (Decompose 4 usual 1 thenJ) (Refused 7 0 0) (spoiled 4)
+    ∷ line (Decompose 4 usual 2 thenJ) (Passes 1) (left 4 thenJ (identity 4)) ∷ []
 
 g-holds : Holds g
-unfolding opened g
+unfolding openedMarked g
 g-holds = record { all = refl }
 
 -- order 3, NaN at row 2 column 1: 6 at 2 1
-h : List Row
-h = row (Decompose 3 usual 1 (0 ∷ 0 ∷ 0 ∷ 0 ∷ 0 ∷ nan ∷ 0 ∷ 0 ∷ 0 ∷ [])) (Refused 6 2 1) (untouched 3) ∷ []
+h : List Line
+h = line (Decompose 3 usual 1 (0 ∷ 0 ∷ 0 ∷ 0 ∷ 0 ∷ nan ∷ 0 ∷ 0 ∷ 0 ∷ [])) (Refused 6 2 1) (untouched 3) ∷ []
 
 h-holds : Holds h
-unfolding opened h
+unfolding openedMarked h
 h-holds = record { all = refl }
 
 -- order 65 gives 2; order 0 gives 1
-i : List Row
-i = row (Decompose 65 usual 1 (zeros (65 * 65))) (Refused 2 0 0) (untouched 65) ∷ row (Decompose 0 usual 1 []) (Refused 1 0 0) (untouched 0) ∷ []
+i : List Line
+i = line (Decompose 65 usual 1 (zeros (65 * 65))) (Refused 2 0 0) (untouched 65) ∷ line (Decompose 0 usual 1 []) (Refused 1 0 0) (untouched 0) ∷ []
 
 i-holds : Holds i
-unfolding opened i
+unfolding openedMarked i
 i-holds = record { all = refl }
 
 -- tolerance 1 gives 4
-j : List Row
-j = row (Decompose 2 one 1 J) (Refused 4 0 0) (untouched 2) ∷ []
+j : List Line
+j = line (Decompose 2 one 1 J) (Refused 4 0 0) (untouched 2) ∷ []
 
 j-holds : Holds j
-unfolding opened j
+unfolding openedMarked j
 j-holds = record { all = refl }
 
 -- budget 0 gives 5
-k : List Row
-k = row (Decompose 2 usual 0 J) (Refused 5 0 0) (untouched 2) ∷ []
+k : List Line
+k = line (Decompose 2 usual 0 J) (Refused 5 0 0) (untouched 2) ∷ []
 
 k-holds : Holds k
-unfolding opened k
+unfolding openedMarked k
 k-holds = record { all = refl }
 
 -- rows (0 2^700), (2^700 0): 8 at 0 0
-l : List Row
-l = row (Decompose 2 usual 1 (0 ∷ huge ∷ huge ∷ 0 ∷ [])) (Refused 8 0 0) (spoilt 2) ∷ []
+l : List Line
+l = line (Decompose 2 usual 1 (0 ∷ huge ∷ huge ∷ 0 ∷ [])) (Refused 8 0 0) (spoiled 2) ∷ []
 
 l-holds : Holds l
-unfolding opened l
+unfolding openedMarked l
 l-holds = record { all = refl }
 
 -- rows (1 0), (2^700 1): T all zeros, accepted
-m : List Row
-m = row (Decompose 2 usual 1 (one ∷ huge ∷ 0 ∷ one ∷ [])) (Passes 0) (left 2 (zeros 4) (0 ∷ 0 ∷ minusZero ∷ 0 ∷ [])) ∷ []
+m : List Line
+m = line (Decompose 2 usual 1 (one ∷ huge ∷ 0 ∷ one ∷ [])) (Passes 0) (left 2 (zeros 4) (0 ∷ 0 ∷ minusZero ∷ 0 ∷ [])) ∷ []
 
 m-holds : Holds m
-unfolding opened m
+unfolding openedMarked m
 m-holds = record { all = refl }
 
 -- reader, order 3, both entries below the diagonal 1, rest 0: 9 at 2 1
-n : List Row
-n = row (Real 3 below) (Refused 9 2 1) (lent 3 ∷ []) ∷ row (Complex 3 below) (Refused 9 2 1) (lent 3 ∷ lent 3 ∷ []) ∷ []
+n : List Line
+n = line (Real 3 below) (Refused 9 2 1) (lent 3 ∷ []) ∷ line (Complex 3 below) (Refused 9 2 1) (lent 3 ∷ lent 3 ∷ []) ∷ []
 
 n-holds : Holds n
-unfolding opened n
+unfolding openedMarked n
 n-holds = record { all = refl }
 
 -- ---- all of them
 
-pub table : List Row
+pub table : List Line
 table = a ++ b ++ c ++ d ++ e ++ f ++ g ++ h ++ i ++ j ++ k ++ l ++ m ++ n
 
-pub marked : map (λ r. answerOf (r .call)) table ≡ map (λ r. r .answer) table
+pub marked : map (λ x. answerOf (x .call)) table ≡ map (λ x. x .answer) table
 unfolding table
 marked =
     (a-holds then b-holds then c-holds then d-holds then e-holds then f-holds then g-holds then h-holds then i-holds then j-holds then k-holds then l-holds then m-holds

@@ -1,4 +1,4 @@
-// Runs the matrices with known outcomes of document 01, its two roots and some of the oracle's odd inputs through the
+// Runs the matrices with known outcomes of document 01, its two roots, the oracle's odd inputs and some more through the
 // library, and compares what each call answers and leaves in the lent memory with what is expected, bit by bit. Calls and
 // expected answers are its input, the file stdin beside src/, which says how they are written. It prints a line for each
 // call, and how many differ.

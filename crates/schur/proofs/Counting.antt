@@ -1,14 +1,14 @@
 -- What a run answers, by the definition's count of its passes: it ends, with that count, below the budget; or the count is the budget. Assumes nothing.
 use Prim.Native.Nat.{ℕ, _+_, _<_, _≤_}
-use mathlib.Core.Bool.{Bool, true, false, cond}
-use mathlib.Core.Path.{_≡_, refl, sym, ap}
+use mathlib.Core.Bool.{Bool, true, false, cond, true≢false}
+use mathlib.Core.Path.{_≡_, refl, sym, ap, _∙_}
 use mathlib.Core.List.{List}
 use native.Mathlib.Decide.{decLt}
 use native.Mathlib.Omega.{arith}
 use lib.Dec.{eqb, leb}
 use lib.Ieee.{Float}
-use Rattle.loops.specs.Tests.{cond-hold}
-use Rattle.loops.specs.Until.{until-count}
+use Rattle.loops.specs.Tests.{cond-hold, cond-both}
+use Rattle.loops.specs.Until.{until-count, until-walk}
 use Rattle.matrix.specs.Vectors.{largest}
 use Rattle.window.specs.declared.Window.{Window}
 use Rattle.pass.specs.Pair.{Pair}
@@ -37,6 +37,22 @@ turn-counts wanted n eps r =
 pub opened-none : (wanted : Bool) (n : ℕ) (eps : Float) (w : List Float) (p : Pair) → opened wanted n eps w p .state .passes ≡ 0
 unfolding opened after
 opened-none wanted n eps w p = refl
+
+-- a turn counts 1, or closes the window
+turn-counted : (wanted : Bool) (n : ℕ) (eps : Float) (r : Running) → closed (turnOf wanted n eps r) ≡ false → turnOf wanted n eps r .state .passes ≡ r .state .passes + 1
+unfolding turnOf turnTwo turnMore after closed
+turn-counted wanted n eps r =
+    cond-both (λ x. closed x ≡ false → x .state .passes ≡ r .state .passes + 1) (leb (r .state .window .end) (r .state .window .start + 1)) _ _
+    (λ _. cond-both (λ x. closed x ≡ false → x .state .passes ≡ r .state .passes + 1) (leb (r .state .window .end) 2) _ _ (λ _ d. absurd (true≢false d)) (λ _ d. refl))
+    (λ _ d. refl)
+
+-- so a run whose window is still open has counted all its turns
+pub run-counted : (wanted : Bool) (n : ℕ) (eps : Float) (budget : ℕ) (r : Running) → r .state .passes ≡ 0 → closed (runFrom wanted n eps budget r) ≡ false
+    → runFrom wanted n eps budget r .state .passes ≡ budget
+unfolding runFrom
+run-counted wanted n eps budget r first =
+    until-walk (λ m x. closed x ≡ false → x .state .passes ≡ m) closed (turnOf wanted n eps) budget r (λ m l d h still. absurd (true≢false (sym d ∙ still)))
+    (λ m l d h still. turn-counted wanted n eps _ still ∙ ap (λ k. k + 1) (h d)) (λ _. first)
 
 -- so the run's passes are the budget at most
 within : (wanted : Bool) (n : ℕ) (eps : Float) (budget : ℕ) (w : List Float) (p : Pair) → runFrom wanted n eps budget (opened wanted n eps w p) .state .passes ≤ budget

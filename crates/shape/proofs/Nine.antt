@@ -70,7 +70,7 @@ module _ (wanted : Bool) (n : ℕ) (tolerance : Float) (budget : ℕ) (m : List 
   abbrev axisVanished : Bool
   axisVanished = vanished wanted n tolerance budget (pair m (p .q)) w
 
-  -- the run ended short of its budget, and no axis did: T has the shape by the run's own steps
+  -- the run ended short of its budget, and no axis vanished: T has the shape by the run's own steps
   pub run-shape : {c : ℕ} → checks ≡ Passed → axisVanished ≡ false → ran .answer ≡ Ended c → QuasiTriangular n (ran .pair .t)
   run-shape h none e =
       let r = all-right _ _ _ _ _ h in

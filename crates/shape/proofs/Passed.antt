@@ -1,5 +1,5 @@
 -- A pass in which no axis vanished: the bulge is made at the window's start, moves on step by step and is swept at its end, and no row below the window is
--- touched. So T is zero two or more places below its diagonal again, and what was settled below the window still is. Assumes nothing.
+-- touched. So T is zero two or more places below its diagonal again, and has the shape from the window's end on, as before. Assumes nothing.
 use Prim.Native.Nat.{ℕ, zero, suc, _+_, _-_, _<_, _≤_, min}
 use mathlib.Core.Bool.{Bool, true, false}
 use mathlib.Core.Path.{_≡_, refl, ap, _∙_, subst}
@@ -24,7 +24,7 @@ use Rattle.schur.specs.declared.run.State.{State}
 use Rattle.schur.specs.Run.{after, turnMore}
 use Rattle.shape.specs.Vanished.{tooSmall, passTo, axisColumn, passVanished}
 use Rattle.shape.proofs.Zeros.{either-keeps}
-use Rattle.shape.proofs.Delimited.{Settled, Open, delimit-sound}
+use Rattle.shape.proofs.Delimited.{ShapedFrom, Open, delimit-sound}
 use Rattle.shape.proofs.Split.{SoundAt}
 use Rattle.shape.proofs.Bulge.{Chased, step-chased}
 
@@ -80,7 +80,7 @@ module _ (wanted : Bool) (n : ℕ) (w : Window) (p : Pair) (o : Open n w (p .t))
   here-chased : Chased n s e e (p .t) (passHere wanted n w p .t)
   unfolding passHere before passTo
   here-chased =
-      let z = o .settled in
+      let z = o .shaped in
       let q : e - 1 + 1 ≡ e = omega arith in
       let begun : Chased n s e s (p .t) (p .t) = record { size = z .size; bulge = λ i j h l _. z .far i j h l; below = λ i j _ _. refl } in
       let walked = range-walk (λ k r. Chased n s e k (p .t) (r .t)) (chased wanted n (firstColumn n s e (p .t)) s e) s (e - 1) p (omega arith) chased-on begun in
@@ -88,11 +88,11 @@ module _ (wanted : Bool) (n : ℕ) (w : Window) (p : Pair) (o : Open n w (p .t))
 
   pass-is-here : n ≤ 64 → passOf wanted n w p ≡ passHere wanted n w p
   unfolding passOf
-  pass-is-here small = rw (fitting n (length (p .t)) (e + 1) (e + 1) small (o .settled .size) (omega arith) (omega arith), le-leb (s + 2) e three-rows)
+  pass-is-here small = rw (fitting n (length (p .t)) (e + 1) (e + 1) small (o .shaped .size) (omega arith) (omega arith), le-leb (s + 2) e three-rows)
 
-  pub pass-settled : n ≤ 64 → Settled n e (passOf wanted n w p .t)
-  pass-settled small =
-      let z = o .settled in
+  pub pass-shaped : n ≤ 64 → ShapedFrom n e (passOf wanted n w p .t)
+  pass-shaped small =
+      let z = o .shaped in
       let c = here-chased in
       let still : (i j : ℕ) → i < n → e < i → isZero (p .t ! place n i j) ≡ true → isZero (passHere wanted n w p .t ! place n i j) ≡ true = λ i j h l k. ap isZero (c .below i j h l) ∙ k in
       rw (pass-is-here small) (record {
@@ -108,4 +108,4 @@ pub more-sound : (wanted : Bool) (n : ℕ) (eps : Float) (s : State) (p : Pair) 
     → passVanished wanted n (s .window) p ≡ false → SoundAt n (turnMore wanted n eps s p)
 unfolding turnMore after
 more-sound wanted n eps s p small o l none =
-    delimit-sound n eps (s .window .end) (passOf wanted n (s .window) p .t) small (o .room) (pass-settled wanted n (s .window) p o l none small)
+    delimit-sound n eps (s .window .end) (passOf wanted n (s .window) p .t) small (o .room) (pass-shaped wanted n (s .window) p o l none small)

@@ -1,8 +1,8 @@
--- A run in which no axis vanished: every turn keeps what is settled, so where its window closes T has the shape, and a run that ends short of its budget
+-- A run in which no axis vanished: every turn keeps the shape from the window's end on, so where its window closes T has the shape, and a run that ends short of its budget
 -- has closed its window. Assumes nothing.
 use Prim.Native.Nat.{ℕ, _+_, _-_, _*_, _<_, _≤_}
-use mathlib.Core.Bool.{Bool, true, false, true≢false}
-use mathlib.Core.Path.{_≡_, refl, sym, ap, _∙_}
+use mathlib.Core.Bool.{Bool, true, false}
+use mathlib.Core.Path.{_≡_, refl, ap, _∙_}
 use mathlib.Core.List.{List}
 use native.Mathlib.Decide.{decLt}
 use native.Mathlib.Omega.{arith}
@@ -24,13 +24,13 @@ use Rattle.hessenberg.proofs.Frames.{reduced-length, reduced-work, unpackedH-le
 use Rattle.window.specs.Window.{window}
 use Rattle.pass.specs.Pair.{Pair, pair}
 use Rattle.schur.specs.declared.run.Ran.the-variants.{Ended}
-use Rattle.schur.specs.Run.{Running, closed, after, turnTwo, turnMore, turnOf, runFrom, scaledDown, reducedPair, opened, Left, answered, ranOf}
-use Rattle.schur.proofs.Counting.{opened-none}
+use Rattle.schur.specs.Run.{Running, closed, after, turnOf, runFrom, scaledDown, reducedPair, opened, Left, answered, ranOf}
+use Rattle.schur.proofs.Counting.{opened-none, run-counted}
 use Rattle.schur.proofs.Lengths.{scaledDown-length}
 use Rattle.refusal.specs.Shape.{QuasiTriangular}
 use Rattle.shape.specs.Vanished.{turnVanished, runVanished, vanished}
 use Rattle.shape.proofs.Zeros.{zero-is, either-keeps, times-keeps}
-use Rattle.shape.proofs.Delimited.{Settled, delimit-sound}
+use Rattle.shape.proofs.Delimited.{ShapedFrom, delimit-sound}
 use Rattle.shape.proofs.Split.{SoundAt, two-sound}
 use Rattle.shape.proofs.Passed.{more-sound}
 
@@ -48,9 +48,9 @@ turn-sound wanted n eps r small still none z =
 -- ---- the first state
 
 -- H is +0 two or more places below its diagonal, and has no row below the last
-opened-settled : (n : ℕ) (t w : List Float) → n ≤ 64 → 1 ≤ n → length t ≡ n * n → length w ≡ 2 * n → Settled n (n - 1) (unpackedH n (reduced n t w .work) (reduced n t w .matrix))
+opened-shaped : (n : ℕ) (t w : List Float) → n ≤ 64 → 1 ≤ n → length t ≡ n * n → length w ≡ 2 * n → ShapedFrom n (n - 1) (unpackedH n (reduced n t w .work) (reduced n t w .matrix))
 unfolding workFits
-opened-settled n t w small some size room =
+opened-shaped n t w small some size room =
     let kept : length (reduced n t w .matrix) ≡ n * n = reduced-length n t w ∙ size in
     record {
       size = unpackedH-length n _ _ ∙ kept;
@@ -62,7 +62,7 @@ opened-settled n t w small some size room =
 opened-sound : (wanted : Bool) (n : ℕ) (eps : Float) (w : List Float) (p : Pair) → n ≤ 64 → 1 ≤ n → length (p .t) ≡ n * n → length w ≡ 2 * n → SoundAt n (opened wanted n eps w p)
 unfolding opened after reducedPair
 opened-sound wanted n eps w p small some size room =
-    delimit-sound n eps (n - 1) _ small (omega arith) (opened-settled n (scaledDown (p .t)) w small some (scaledDown-length (p .t) ∙ size) room)
+    delimit-sound n eps (n - 1) _ small (omega arith) (opened-shaped n (scaledDown (p .t)) w small some (scaledDown-length (p .t) ∙ size) room)
 
 -- ---- all turns
 
@@ -71,22 +71,6 @@ unfolding runFrom runVanished
 run-sound wanted n eps budget r small none z =
     until-walk (λ _. SoundAt n) closed (turnOf wanted n eps) budget r (λ m l d h. h)
     (λ m l d h. turn-sound wanted n eps _ small d (some-none (λ m. turnVanished wanted n (runFrom wanted n eps m r)) 0 budget m none (omega arith) l) h) z
-
--- a turn counts 1, or closes the window
-turn-counted : (wanted : Bool) (n : ℕ) (eps : Float) (r : Running) → closed (turnOf wanted n eps r) ≡ false → turnOf wanted n eps r .state .passes ≡ r .state .passes + 1
-unfolding turnOf turnTwo turnMore after closed
-turn-counted wanted n eps r =
-    cond-both (λ x. closed x ≡ false → x .state .passes ≡ r .state .passes + 1) (leb (r .state .window .end) (r .state .window .start + 1)) _ _
-    (λ _. cond-both (λ x. closed x ≡ false → x .state .passes ≡ r .state .passes + 1) (leb (r .state .window .end) 2) _ _ (λ _ d. absurd (true≢false d)) (λ _ d. refl))
-    (λ _ d. refl)
-
--- so a run whose window is still open has counted all its turns
-run-counted : (wanted : Bool) (n : ℕ) (eps : Float) (budget : ℕ) (r : Running) → r .state .passes ≡ 0 → closed (runFrom wanted n eps budget r) ≡ false
-    → runFrom wanted n eps budget r .state .passes ≡ budget
-unfolding runFrom
-run-counted wanted n eps budget r first =
-    until-walk (λ m x. closed x ≡ false → x .state .passes ≡ m) closed (turnOf wanted n eps) budget r (λ m l d h still. absurd (true≢false (sym d ∙ still)))
-    (λ m l d h still. turn-counted wanted n eps _ still ∙ ap (λ k. k + 1) (h d)) (λ _. first)
 
 -- ---- what is left of T
 

@@ -20,11 +20,11 @@ use Rattle.pass.proofs.BlockFrames.{splitAt-length, splitAt-frame}
 use Rattle.schur.specs.declared.run.State.{State}
 use Rattle.schur.specs.Run.{Running, after, turnTwo}
 use Rattle.shape.proofs.Zeros.{either-first, either-second, either-keeps}
-use Rattle.shape.proofs.Delimited.{Settled, Open, Sound, delimit-sound}
+use Rattle.shape.proofs.Delimited.{ShapedFrom, Open, Sound, delimit-sound}
 
--- ---- what is settled then: t becomes u, and of the entries below the diagonal only that of row s + 1 and column s differs
+-- ---- from where on T has the shape then: t becomes u, and of the entries below the diagonal only that of row s + 1 and column s differs
 
-module _ (n s : ℕ) (t u : List Float) (z : Settled n (s + 1) t) (start : 0 < s → isZero (t ! place n s (s - 1)) ≡ true)
+module _ (n s : ℕ) (t u : List Float) (z : ShapedFrom n (s + 1) t) (start : 0 < s → isZero (t ! place n s (s - 1)) ≡ true)
     (same : (i j : ℕ) → i < n → j < i → (i ≡ s + 1 → j ≡ s → ⊥) → u ! place n i j ≡ t ! place n i j) where
   zero-still : (i j : ℕ) → i < n → j < i → (i ≡ s + 1 → j ≡ s → ⊥) → isZero (t ! place n i j) ≡ true → isZero (u ! place n i j) ≡ true
   zero-still i j h l out e = ap isZero (same i j h l out) ∙ e
@@ -55,8 +55,8 @@ module _ (n s : ℕ) (t u : List Float) (z : Settled n (s + 1) t) (start : 0 < s
           rw q (either-second (isZero (u ! place n (s + 1) s)) (isZero (u ! place n (s + 2) (s + 1))) (zero-still (s + 2) (s + 1) (omega arith) (omega arith) (λ x y. omega arith) at))
 
   -- above row 0: the end falls to the row above s
-  split-settled : 0 < s → length u ≡ n * n → Settled n (s - 1) u
-  split-settled l size =
+  split-shaped : 0 < s → length u ≡ n * n → ShapedFrom n (s - 1) u
+  split-shaped l size =
       let q : s - 1 + 1 ≡ s = omega arith in
       record {
         size = size;
@@ -73,8 +73,8 @@ module _ (n s : ℕ) (t u : List Float) (z : Settled n (s + 1) t) (start : 0 < s
 abbrev pub SoundAt : ℕ → Running → Type 0
 SoundAt n r = Sound n (r .state .window) (r .pair .t)
 
--- the end is 2 or less, and so the start 1 or less: all of T is settled
-ends-sound : (n s : ℕ) (t u : List Float) → Settled n (s + 1) t → (0 < s → isZero (t ! place n s (s - 1)) ≡ true)
+-- the end is 2 or less, and so the start 1 or less: all of T has the shape
+ends-sound : (n s : ℕ) (t u : List Float) → ShapedFrom n (s + 1) t → (0 < s → isZero (t ! place n s (s - 1)) ≡ true)
     → ((i j : ℕ) → i < n → j < i → (i ≡ s + 1 → j ≡ s → ⊥) → u ! place n i j ≡ t ! place n i j) → length u ≡ n * n → s + 1 ≤ 2 → Sound n (window 0 0) u
 ends-sound n s t u z start same size l =
     record {
@@ -89,7 +89,7 @@ unfolding turnTwo after
 two-sound wanted n eps s p small o l =
     let k = s .window .start in
     let two : s .window .end ≡ k + 1 = omega arith in
-    let z : Settled n (k + 1) (p .t) = subst (λ e. Settled n e (p .t)) two (o .settled) in
+    let z : ShapedFrom n (k + 1) (p .t) = subst (λ e. ShapedFrom n e (p .t)) two (o .shaped) in
     let same = splitAt-frame wanted n k p in
     let size : length (splitAt wanted n k p .t) ≡ n * n = splitAt-length wanted n k p ∙ z .size in
     cond-both (SoundAt n) (leb (s .window .end) 2) _ _
@@ -97,4 +97,4 @@ two-sound wanted n eps s p small o l =
     (λ e.
     let far = leb-false (s .window .end) 2 e in
     let q : k - 1 ≡ s .window .end - 2 = omega arith in
-    delimit-sound n eps (s .window .end - 2) _ small (omega arith) (subst (λ e. Settled n e (splitAt wanted n k p .t)) q (split-settled n k (p .t) _ z (o .start) same (omega arith) size)))
+    delimit-sound n eps (s .window .end - 2) _ small (omega arith) (subst (λ e. ShapedFrom n e (splitAt wanted n k p .t)) q (split-shaped n k (p .t) _ z (o .start) same (omega arith) size)))
