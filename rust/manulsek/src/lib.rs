@@ -52,7 +52,8 @@ pub const NAN: f64 = f64::from_bits(0x7ff8_0000_0000_0000);
 ///
 /// The matrix, t, and q if there is one, have `order * order` numbers. The tolerance is from 0 to below
 /// 1, `f64::EPSILON` for most uses; the budget is from 1 to [`MAX_BUDGET`], and the pass count of an
-/// accepted call is below it.
+/// accepted call is below it. An accepted t is zero two or more places below its diagonal, and of two
+/// neighbours just below it at least one is zero; it is the same whether q is asked for or not.
 ///
 /// Refused with 1 to 6, nothing was touched. Refused with 7, 8 or 9, every number of t and q is [`NAN`].
 #[inline]
@@ -78,7 +79,9 @@ pub fn decompose(
 
 /// The real reader: the eigenvalues of a T, if all of them are real. They stand on its diagonal.
 ///
-/// `values` has `order` numbers. Refused, nothing was touched; 10 says that some are complex.
+/// `values` has `order` numbers. On the T of an accepted decomposition there are two answers: the
+/// diagonal, exactly if every entry just below it is zero, and else 10, some are complex. Refused,
+/// nothing was touched.
 #[inline]
 pub fn eigenvalues(order: usize, t: &[f64], values: &mut [f64]) -> Result<(), Refusal> {
     done(bytes::eigenvalues(
