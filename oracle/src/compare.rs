@@ -27,6 +27,8 @@ use std::time::Instant;
 
 pub use case::Case;
 pub use families::FAMILIES;
+pub use shapes::not_finite;
+pub use witnesses::kept_witnesses;
 
 /// Each family is cut into this many parts, which threads take one by one. The matrices of a part
 /// depend on its number and the seed, never on the thread.

@@ -6,10 +6,14 @@ use super::case::{Case, SMALL_BUDGETS, TOLERANCES};
 /// A copy of ../shared/oracle/witnesses.txt, then the matrices with known outcomes.
 const WITNESSES: &str = include_str!("../../witnesses.txt");
 
+/// Every witness as it stands.
+pub fn kept_witnesses() -> Vec<Case> {
+    read(WITNESSES).expect("the oracle's own file")
+}
+
 /// Every witness as it stands, and at every tolerance with several budgets.
 pub fn cases() -> Vec<Case> {
-    let witnesses = read(WITNESSES).expect("the oracle's own file");
-    witnesses.iter().flat_map(everywhere).collect()
+    kept_witnesses().iter().flat_map(everywhere).collect()
 }
 
 fn everywhere(case: &Case) -> Vec<Case> {
