@@ -259,7 +259,7 @@ mod tests {
         assert_eq!(first.mismatches, first.tried);
         assert_eq!(first.shown, second.shown);
         assert_eq!(first.tried, second.tried);
-        assert!(first.shown.unwrap().contains("where `"));
+        assert!(first.shown.unwrap().contains(" where "));
     }
 
     #[test]

@@ -32,8 +32,8 @@ pub const DAMAGES: &[Damage] = &[
     damage("random bytes", random_bytes),
 ];
 
-/// The damages that are done to a record, one alone or two at once.
-const SINGLE: std::ops::Range<u64> = 1..9;
+/// The first and the last of those that are done two at once too.
+const SINGLE: [usize; 2] = [1, 8];
 
 /// No run is to take longer: many matrices never close their windows.
 const LONGEST: u32 = 1000;
@@ -87,13 +87,16 @@ fn shorten(bytes: &mut [u8], judge: &mut Judge) {
     }
 }
 
-/// A place in a record: in half of the cases in its header, or just behind it.
-fn place(random: &mut Random, length: usize) -> usize {
-    let end = match random.below(2) {
-        0 => length.min(22),
-        _ => length,
-    };
-    between(random, 0, end)
+/// A place up to this: in half of the cases in the header, or just behind it.
+fn place(random: &mut Random, last: usize) -> usize {
+    match random.below(2) {
+        0 => between(random, 0, last.min(22)),
+        _ => between(random, 0, last),
+    }
+}
+
+fn last(bytes: &[u8]) -> usize {
+    bytes.len().saturating_sub(1)
 }
 
 fn some_bytes(random: &mut Random, count: usize) -> Vec<u8> {
@@ -101,15 +104,15 @@ fn some_bytes(random: &mut Random, count: usize) -> Vec<u8> {
 }
 
 fn changed(random: &mut Random, mut bytes: Vec<u8>) -> Vec<u8> {
-    if let Some(last) = bytes.len().checked_sub(1) {
-        let place = place(random, last);
-        bytes[place] ^= 1 + random.below(255) as u8;
+    let place = place(random, last(&bytes));
+    if let Some(byte) = bytes.get_mut(place) {
+        *byte ^= 1 + random.below(255) as u8;
     }
     bytes
 }
 
 fn dropped(random: &mut Random, mut bytes: Vec<u8>) -> Vec<u8> {
-    let from = place(random, bytes.len());
+    let from = place(random, last(&bytes));
     let to = (from + between(random, 1, 8)).min(bytes.len());
     bytes.drain(from..to);
     bytes
@@ -123,8 +126,8 @@ fn inserted(random: &mut Random, mut bytes: Vec<u8>) -> Vec<u8> {
 
 fn cut(random: &mut Random, mut bytes: Vec<u8>) -> Vec<u8> {
     let length = match random.below(4) {
-        0 => bytes.len().saturating_sub(1),
-        _ => place(random, bytes.len()),
+        0 => last(&bytes),
+        _ => place(random, last(&bytes)),
     };
     bytes.truncate(length);
     bytes
@@ -215,7 +218,7 @@ fn order(random: &mut Random, bytes: Vec<u8>) -> Vec<u8> {
 
 fn two(random: &mut Random, mut bytes: Vec<u8>) -> Vec<u8> {
     for _ in 0..2 {
-        let damage = &DAMAGES[between(random, SINGLE.start as usize, SINGLE.end as usize - 1)];
+        let damage = &DAMAGES[between(random, SINGLE[0], SINGLE[1])];
         bytes = (damage.inflict)(random, bytes);
     }
     bytes
@@ -264,17 +267,21 @@ mod tests {
         assert_eq!(met.missing(), []);
     }
 
-    /// What is not damaged is right, what is cut or lengthened is not, and no run is long.
     #[test]
     fn damages_are_what_they_say() {
-        each(200, |damage, _, input| {
-            let right = printed::right(input);
-            match damage.name {
-                "none" | "an entry not finite" | "random entries" => assert!(right.is_ok()),
-                "lengthened" => assert!(right.is_err()),
-                _ => {}
-            }
+        let mut right = [0; DAMAGES.len()];
+        each(400, |damage, _, input| {
+            let place = DAMAGES.iter().position(|one| one.name == damage.name);
+            right[place.unwrap()] += printed::right(input).is_ok() as usize;
         });
+        for (damage, right) in DAMAGES.iter().zip(right) {
+            let some = match damage.name {
+                "none" | "an entry not finite" | "random entries" => 400..=400,
+                "bytes dropped" | "bytes inserted" | "cut" | "lengthened" | "random bytes" => 0..=0,
+                _ => 20..=380,
+            };
+            assert!(some.contains(&right), "{}: {right} are right", damage.name);
+        }
     }
 
     #[test]

@@ -105,18 +105,20 @@ fn gather(child: &mut Child) -> Option<[Vec<u8>; 2]> {
     }
 }
 
+/// The first line that is another, its end included.
 fn difference(out: &[u8], text: &str) -> String {
     let out = String::from_utf8_lossy(out);
-    let (lines, right) = (out.split('\n'), text.split('\n'));
-    let place = lines.clone().zip(right.clone()).position(|(a, b)| a != b);
-    let place = place.unwrap_or(lines.clone().count().min(right.clone().count()));
-    let told = |line: Option<&str>| line.map_or("nothing".to_string(), |line| format!("`{line}`"));
-    format!(
-        "line {}: {} where {} belongs",
-        place + 1,
-        told(lines.clone().nth(place)),
-        told(right.clone().nth(place))
-    )
+    let mut lines = out.split_inclusive('\n');
+    let mut right = text.split_inclusive('\n');
+    let told = |line: Option<&str>| line.map_or("nothing".to_string(), |line| format!("{line:?}"));
+    for place in 1.. {
+        let (line, right) = (lines.next(), right.next());
+        if line != right || line.is_none() {
+            let (line, right) = (told(line), told(right));
+            return format!("line {place}: {line} where {right} belongs");
+        }
+    }
+    unreachable!("one of them ends")
 }
 
 #[cfg(test)]
@@ -148,13 +150,17 @@ mod tests {
         assert_eq!(wrong_of("/bin/cat", &pieces, "refused 12 0 0\n"), None);
         assert_eq!(
             wrong_of("/bin/cat", &pieces, "refused 14 0 0\n").unwrap(),
-            "line 1: `refused 12 0 0` where `refused 14 0 0` belongs"
+            r#"line 1: "refused 12 0 0\n" where "refused 14 0 0\n" belongs"#
         );
         let long = "order 1 passes 0\n".repeat(20_000);
         assert_eq!(wrong_of("/bin/cat", &[long.as_bytes()], &long), None);
         assert_eq!(
             wrong_of("/bin/cat", &[long.as_bytes()], &long[..17]).unwrap(),
-            "line 2: `order 1 passes 0` where `` belongs"
+            r#"line 2: "order 1 passes 0\n" where nothing belongs"#
+        );
+        assert_eq!(
+            wrong_of("/bin/cat", &pieces[..2], "refused 1\n").unwrap(),
+            r#"line 1: "refused 1" where "refused 1\n" belongs"#
         );
         assert_eq!(wrong_of("/bin/true", &[long.as_bytes()], ""), None);
         let ended = wrong_of("/bin/false", &[b""], "").unwrap();
