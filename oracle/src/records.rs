@@ -28,8 +28,8 @@ const PROGRAM: &str = "../target/bin/looproots";
 
 pub fn run(arguments: &[String]) -> Result<usize, String> {
     match arguments {
-        [] => compare_stored(false),
-        [only] if only == "--write" => compare_stored(true),
+        [] => run_stored(FOLDER, false),
+        [only] if only == "--write" => run_stored(FOLDER, true),
         _ => {
             let (mut count, mut seed) = (None, options::SEED);
             options::each(arguments, |name, value| {
@@ -46,8 +46,11 @@ pub fn run(arguments: &[String]) -> Result<usize, String> {
     }
 }
 
-/// The files of the test program by their names in its folder, and how its inputs are answered.
-fn files() -> (BTreeMap<String, Vec<u8>>, Met) {
+/// The files of the test program by their names in its folder.
+type Files = BTreeMap<String, Vec<u8>>;
+
+/// The files, and how the inputs are answered.
+fn files() -> (Files, Met) {
     let mut judge = Judge::default();
     let (mut files, mut met) = (BTreeMap::new(), Met::default());
     let (mut names, mut lines) = (String::new(), String::new());
@@ -63,53 +66,84 @@ fn files() -> (BTreeMap<String, Vec<u8>>, Met) {
     (files, met)
 }
 
-fn compare_stored(write: bool) -> Result<usize, String> {
+fn run_stored(folder: &str, write: bool) -> Result<usize, String> {
     let (files, met) = files();
-    let wrong = |file: &str, why: std::io::Error| format!("{FOLDER}/{file}: {why}");
-    let data = format!("{FOLDER}/data");
     if write {
-        fs::create_dir_all(&data).map_err(|why| wrong("data", why))?;
+        store(folder, &files)?;
     }
-    let mut differences = 0;
-    for (name, right) in &files {
-        let path = format!("{FOLDER}/{name}");
-        let held = match fs::read(&path) {
-            Err(why) if why.kind() == ErrorKind::NotFound => None,
-            other => Some(other.map_err(|why| wrong(name, why))?),
-        };
-        if held.as_ref() == Some(right) {
-            continue;
-        }
-        if write {
-            fs::write(&path, right).map_err(|why| wrong(name, why))?;
-            continue;
-        }
-        differences += 1;
-        match held {
-            None => println!("{FOLDER}/{name} is not there"),
-            Some(held) => println!("{FOLDER}/{name}: {}", difference(&held, right)),
-        }
-    }
-    for entry in fs::read_dir(&data).into_iter().flatten() {
-        let entry = entry.map_err(|why| wrong("data", why))?;
-        let name = format!("data/{}", entry.file_name().to_string_lossy());
-        if files.contains_key(&name) {
-            continue;
-        }
-        if write {
-            fs::remove_file(entry.path()).map_err(|why| wrong(&name, why))?;
-        } else {
-            differences += 1;
-            println!("{FOLDER}/{name} is no case");
-        }
-    }
+    let differences = differences(folder, &files)?;
+    differences.iter().for_each(|what| println!("{what}"));
     met.print();
     let missing = not_met(&met);
     println!(
-        "{} cases, {differences} differences",
-        files.len() - ["args", "stdout"].len()
+        "{} cases, {} differences",
+        files.len() - ["args", "stdout"].len(),
+        differences.len()
     );
-    Ok(differences + missing)
+    Ok(differences.len() + missing)
+}
+
+/// Writes what is not as it should be, and removes what is no case.
+fn store(folder: &str, files: &Files) -> Result<(), String> {
+    let data = format!("{folder}/data");
+    fs::create_dir_all(&data).map_err(|why| format!("{data}: {why}"))?;
+    for (name, right) in files {
+        if held(folder, name)?.as_ref() != Some(right) {
+            let path = format!("{folder}/{name}");
+            fs::write(&path, right).map_err(|why| format!("{path}: {why}"))?;
+        }
+    }
+    for name in others(folder, files)? {
+        let path = format!("{folder}/{name}");
+        fs::remove_file(&path).map_err(|why| format!("{path}: {why}"))?;
+    }
+    Ok(())
+}
+
+fn differences(folder: &str, files: &Files) -> Result<Vec<String>, String> {
+    let mut differences = Vec::new();
+    for (name, right) in files {
+        let what = match held(folder, name)? {
+            Some(held) if held == *right => continue,
+            None => "is not there".to_string(),
+            Some(held) => match std::str::from_utf8(right) {
+                Ok(text) if !name.starts_with("data/") => program::difference(&held, text),
+                _ => "is another".to_string(),
+            },
+        };
+        differences.push(format!("{folder}/{name}: {what}"));
+    }
+    let others = others(folder, files)?.into_iter();
+    differences.extend(others.map(|name| format!("{folder}/{name}: is no case")));
+    Ok(differences)
+}
+
+/// What a file holds, if it is there.
+fn held(folder: &str, name: &str) -> Result<Option<Vec<u8>>, String> {
+    let path = format!("{folder}/{name}");
+    match fs::read(&path) {
+        Ok(bytes) => Ok(Some(bytes)),
+        Err(why) if why.kind() == ErrorKind::NotFound => Ok(None),
+        Err(why) => Err(format!("{path}: {why}")),
+    }
+}
+
+/// The inputs that are stored and are no case.
+fn others(folder: &str, files: &Files) -> Result<Vec<String>, String> {
+    let data = format!("{folder}/data");
+    let entries = match fs::read_dir(&data) {
+        Err(why) if why.kind() == ErrorKind::NotFound => return Ok(Vec::new()),
+        other => other.map_err(|why| format!("{data}: {why}"))?,
+    };
+    let mut others = Vec::new();
+    for entry in entries {
+        let name = entry.map_err(|why| format!("{data}: {why}"))?.file_name();
+        let name = format!("data/{}", name.to_string_lossy());
+        if !files.contains_key(&name) {
+            others.push(name);
+        }
+    }
+    Ok(others)
 }
 
 /// Says which answers were not met, and how many they are.
@@ -119,17 +153,6 @@ fn not_met(met: &Met) -> usize {
         println!("no input came to {}", outcome.name());
     }
     missing.len()
-}
-
-fn difference(held: &[u8], right: &[u8]) -> String {
-    let place = held.iter().zip(right).position(|(a, b)| a != b);
-    let place = place.unwrap_or(held.len().min(right.len()));
-    let line = right[..place].iter().filter(|byte| **byte == b'\n').count() + 1;
-    format!(
-        "{} bytes where {} belong, other from byte {place} on, line {line}",
-        held.len(),
-        right.len()
-    )
 }
 
 /// The damaged records are cut into so many parts, which threads take one by one. The records of a part
@@ -249,6 +272,31 @@ mod tests {
             .filter(|line| line.ends_with(':'))
             .count();
         assert_eq!(heads, names.lines().count());
+    }
+
+    #[test]
+    fn what_is_stored_is_compared() {
+        let folder = std::env::temp_dir().join(format!("oracle_records_{}", std::process::id()));
+        let folder = folder.to_str().expect("a plain path");
+        let (files, _) = files();
+        let differ = || differences(folder, &files).unwrap();
+        assert_eq!(differ().len(), files.len());
+        store(folder, &files).unwrap();
+        assert_eq!(differ(), [""; 0]);
+        fs::write(format!("{folder}/data/other"), "x").unwrap();
+        fs::write(format!("{folder}/data/cut_03"), "x").unwrap();
+        fs::write(format!("{folder}/stdout"), "sample:\norder 2 passes 1\n").unwrap();
+        fs::remove_file(format!("{folder}/data/sample")).unwrap();
+        let right = [
+            "data/cut_03: is another",
+            "data/sample: is not there",
+            r#"stdout: line 2: "order 2 passes 1\n" where "order 2 passes 0\n" belongs"#,
+            "data/other: is no case",
+        ];
+        assert_eq!(differ(), right.map(|what| format!("{folder}/{what}")));
+        store(folder, &files).unwrap();
+        assert_eq!(differ(), [""; 0]);
+        fs::remove_dir_all(folder).unwrap();
     }
 
     /// `cat` is no such program: it hands each record back. Two runs from one seed say the same.

@@ -106,7 +106,7 @@ fn gather(child: &mut Child) -> Option<[Vec<u8>; 2]> {
 }
 
 /// The first line that is another, its end included.
-fn difference(out: &[u8], text: &str) -> String {
+pub fn difference(out: &[u8], text: &str) -> String {
     let out = String::from_utf8_lossy(out);
     let mut lines = out.split_inclusive('\n');
     let mut right = text.split_inclusive('\n');

@@ -19,7 +19,7 @@ const FAULTS: &[Outcome] = Outcome::ALL.split_at(10).0;
 /// What the run, or the complex reader behind it, is refused with.
 const RESULTS: &[Outcome] = Outcome::ALL.split_at(10).1.split_at(5).0;
 
-/// The program's name for it in a file's name.
+/// As it stands in the name of a file.
 fn name(outcome: Outcome) -> String {
     match outcome {
         Outcome::NoHeader => "r12_head".to_string(),
