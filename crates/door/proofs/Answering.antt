@@ -16,10 +16,10 @@ use Rattle.decomposition.specs.Decomposition.{Outcome, decompositionOf}
 use Rattle.eigenvalues.specs.Readers.{read, realRead, complexly, complexRead}
 use Rattle.eigenvalues.specs.Plain.{plainChecks, plain, plainBegun, plainOf}
 use Rattle.eigenvalues.specs.Plain.{listed as listedFloats}
-use Rattle.words.specs.Floats.{floatsOf, bytesOf}
+use Rattle.words.specs.Floats.{floatsOf, bytesOf, zeros}
 use Rattle.door.specs.Answer.{checkedNumber, decomposedNumber, refusalNumber}
-use Rattle.door.specs.Bytes.{zeros, holds, Matrices, matrices, matrixChecks, writtenMatrices, ranBytes, decomposedFrom, decomposeBytes, listed, listChecks, realBytes, complexListed, complexBytes, plainFrom, plainBytes}
-use Rattle.door.proofs.Floats.{zeros-length, floats-length}
+use Rattle.door.specs.Bytes.{holds, Matrices, matrices, matrixChecks, writtenMatrices, ranBytes, decomposedFrom, decomposeBytes, listed, listChecks, realBytes, complexListed, complexBytes, plainFrom, plainBytes}
+use Rattle.words.proofs.Between.{zeros-length, floats-length}
 use Rattle.door.proofs.Passing.{begins, ListFit, list-fit, real-refused, complex-refused}
 
 -- ---- the decomposition, after its run

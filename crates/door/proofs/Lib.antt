@@ -1,6 +1,6 @@
--- `One`: two answers that a contract allows are one. `Passing`: what follows where the checks on the bytes have passed; `Floats`: what the floats in between hold; `Answering`: what is answered, and the bytes that
--- are left.
+-- `One`: two answers that a contract allows are one. `Passing`: what follows where the checks on the bytes have passed; `Answering`: what is answered, and the
+-- bytes that are left; `Eighths`: bytes by eights.
 pub mod One
 mod Passing
-mod Floats
+mod Eighths
 mod Answering

@@ -22,9 +22,9 @@ use Rattle.decomposition.specs.Decomposition.{judged, decompositionOf}
 use Rattle.decomposition.proofs.Passing.{Right, all-right, passed-judged}
 use Rattle.eigenvalues.specs.Readers.{readable, realChecks, complexChecks}
 use Rattle.eigenvalues.specs.Plain.{plainChecks}
-use Rattle.words.specs.Floats.{floatsOf}
-use Rattle.door.specs.Bytes.{zeros, holds, matrixChecks, listChecks}
-use Rattle.door.proofs.Floats.{zeros-length, floats-length}
+use Rattle.words.specs.Floats.{floatsOf, zeros}
+use Rattle.door.specs.Bytes.{holds, matrixChecks, listChecks}
+use Rattle.words.proofs.Between.{zeros-length, floats-length}
 
 -- ---- the decomposition
 

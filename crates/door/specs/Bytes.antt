@@ -6,7 +6,6 @@ use mathlib.Core.List.{List}
 use lib.Dec.{eqb}
 use lib.ListN.{length}
 use lib.Ieee.{Float, binary64, ofBits}
-use Rattle.loops.specs.Constants.{zero}
 use Rattle.loops.specs.Table.{table}
 use Rattle.pass.specs.Pair.{pair}
 use Rattle.schur.specs.Run.{ranOf}
@@ -18,12 +17,8 @@ use Rattle.decomposition.specs.Decomposition.{Outcome, judged}
 use Rattle.eigenvalues.specs.Blocks.{eigenvalueAt}
 use Rattle.eigenvalues.specs.Readers.{realChecks, diagonal, complexChecks, Read}
 use Rattle.eigenvalues.specs.Plain.{plainChecks, plainRead}
-use Rattle.words.specs.Floats.{floatsOf, bytesOf}
+use Rattle.words.specs.Floats.{floatsOf, bytesOf, zeros}
 use Rattle.door.specs.Answer.{refusalNumber, checkedNumber, decomposedNumber}
-
--- k numbers, all +0: what the door itself lends the library for Q and for the workspace
-unfoldable pub zeros : ℕ → List Float
-zeros k = table k (λ _. zero)
 
 -- whether so many bytes are k patterns
 abbrev pub holds : ℕ → ℕ → Bool

@@ -2,7 +2,7 @@
 use native.Mathlib.Omega.{arith}
 use Prim.Native.Nat.{_*_}
 use borrow.Author.Tests.{ne-eqb}
-use Rattle.door.proofs.Floats.{eighths}
+use Rattle.door.proofs.Eighths.{eighths}
 use Rattle.door.proofs.checks.holds.Statement.{statement}
 use Rattle.door.proofs.checks.holds.Tie as tie
 

@@ -2,7 +2,7 @@
 use native.Mathlib.Omega.{arith}
 use mathlib.Core.Path.{_∙_}
 use lib.ListN.{length}
-use Rattle.door.proofs.Floats.{filled-zeros, decoded, encoded}
+use Rattle.words.proofs.Between.{filled-zeros, decoded, encoded}
 use Rattle.door.proofs.Passing.{MatrixFit, matrix-fit}
 use Rattle.door.proofs.Answering.{ran}
 use Rattle.door.proofs.decompose.on_floats.Statement.{statement}

@@ -1,6 +1,6 @@
 -- `door::decompose::write_q` meets its contract. Assumes nothing.
 use native.Mathlib.Omega.{arith}
-use Rattle.door.proofs.Floats.{encoded}
+use Rattle.words.proofs.Between.{encoded}
 use Rattle.door.proofs.decompose.write_q.Statement.{statement}
 use Rattle.door.proofs.decompose.write_q.Tie as tie
 

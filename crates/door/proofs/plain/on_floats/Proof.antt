@@ -5,7 +5,7 @@ use Prim.Native.Nat.{_*_}
 use borrow.Author.Tests.{eqb-true}
 use lib.ListN.{length}
 use Rattle.door.specs.Bytes.{holds}
-use Rattle.door.proofs.Floats.{filled-zeros, decoded}
+use Rattle.words.proofs.Between.{filled-zeros, decoded}
 use Rattle.door.proofs.Passing.{ListFit, list-fit}
 use Rattle.door.proofs.Answering.{plain-ran}
 use Rattle.door.proofs.plain.on_floats.Statement.{statement}

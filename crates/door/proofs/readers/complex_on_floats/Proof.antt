@@ -7,7 +7,7 @@ use borrow.Author.Tests.{eqb-true}
 use lib.ListN.{length}
 use Rattle.matrix.proofs.Fitting.{both}
 use Rattle.door.specs.Bytes.{holds}
-use Rattle.door.proofs.Floats.{decoded}
+use Rattle.words.proofs.Between.{decoded}
 use Rattle.door.proofs.Passing.{ListFit, list-fit}
 use Rattle.door.proofs.Answering.{complex-read}
 use Rattle.door.proofs.readers.complex_on_floats.Statement.{statement}

@@ -4,7 +4,7 @@ use Prim.Native.Nat.{_*_}
 use borrow.Author.Tests.{eqb-true}
 use lib.ListN.{length}
 use Rattle.door.specs.Bytes.{holds}
-use Rattle.door.proofs.Floats.{decoded}
+use Rattle.words.proofs.Between.{decoded}
 use Rattle.door.proofs.Passing.{ListFit, list-fit}
 use Rattle.door.proofs.Answering.{real-read}
 use Rattle.door.proofs.readers.real_on_floats.Statement.{statement}

@@ -1,7 +1,7 @@
 -- `door::readers::write_list` meets its contract. Assumes nothing.
 use native.Mathlib.Omega.{arith}
 use Rattle.refusal.specs.Refusal.{ifPassed}
-use Rattle.door.proofs.Floats.{encoded}
+use Rattle.words.proofs.Between.{encoded}
 use Rattle.door.proofs.readers.write_list.Statement.{statement}
 use Rattle.door.proofs.readers.write_list.Tie as tie
 

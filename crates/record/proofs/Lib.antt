@@ -1,0 +1,7 @@
+-- Laws. `Paging`: text put on a page piece by piece; `Listing`: line after line; `Digits`: the digits of a number, and how many there are; `Fields`: the
+-- fields of a header; `Answering`: the text by what the library has answered.
+mod Paging
+mod Listing
+mod Digits
+mod Fields
+mod Answering

@@ -1,0 +1,38 @@
+-- `record::lines::put_matrix` meets its contract. Assumes nothing.
+use Prim.Native.Nat.{_-_, _*_, _/_, _%_, _≤_}
+use mathlib.Core.Path.{_≡_, _∙_}
+use native.Mathlib.Omega.{arith}
+use borrow.Author.Needs.{needs}
+use lib.Ieee.{binary64, toBits}
+use Rattle.loops.specs.Rounded.{_!_}
+use Rattle.record.specs.Text.{entryLine, matrixLines}
+use Rattle.record.proofs.Listing.{Listing, listing-none, listing-more, Spot, spot}
+use Rattle.record.proofs.lines.put_matrix.Statement.{statement}
+use Rattle.record.proofs.lines.put_matrix.Tie as tie
+
+abbrev Inv-loop : tie.InvT-loop
+Inv-loop text₀ at letter n a behind₀ k₀ k-end text behind k =
+    (k ≤ k-end) × Listing (λ k. entryLine letter (k % n) (k / n) (toBits binary64 (a ! k))) 25 at text₀ k behind text
+
+abbrev μ-loop : tie.MeasureT-loop
+μ-loop text₀ at letter n a behind₀ k₀ k-end text behind k = k-end - k
+
+found : (c : tie.After-put-entry-arg Inv-loop μ-loop) → Spot (c .before .before .before .before .before .args .n) (c .before .before .loop .k)
+found c = spot (c .before .before .before .before .before .args .n) (c .before .before .loop .k) (omega arith)
+
+again : tie.Need-loop-again Inv-loop μ-loop
+again c = (omega arith, listing-more (c .before .before .before .before .before .before .loop .inv .1) (omega arith) (omega arith) (c .before .before .put-entry .ensures .0))
+
+returns : tie.Need-returns Inv-loop μ-loop
+unfolding matrixLines
+returns c =
+    let n = c .before .before .before .before .args .n in
+    let e : c .before .loop .k ≡ n * n = omega arith in
+    (rw e at (c .before .loop .inv .1 .done), omega arith)
+
+pub put-matrix-spec : {M : Type 1} → statement M
+put-matrix-spec = tie.close (tie.spec Inv-loop μ-loop
+    (λ c. (omega arith, listing-none _ _ _ _))
+    (λ c. omega (arith, found c)) (λ c. omega (arith, found c)) (λ c. omega arith) (λ c. omega arith)
+    (λ c κs. omega (arith, found (c .before)))
+    (λ c. omega arith) (λ c. omega arith) again (λ c. omega arith) returns)

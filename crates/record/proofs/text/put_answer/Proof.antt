@@ -1,0 +1,17 @@
+-- `record::text::put_answer` meets its contract. Assumes nothing.
+use native.Mathlib.Omega.{arith}
+use borrow.Author.Needs.{needs}
+use Rattle.record.specs.Answer.{eigenvaluesText}
+use Rattle.record.proofs.text.put_answer.Statement.{statement}
+use Rattle.record.proofs.text.put_answer.Tie as tie
+
+returns : tie.Need-returns
+unfolding eigenvaluesText
+returns c = (rw (c .before .before .before .before .enum-told .given .1) (c .before .before .put-eigenvalues .ensures .0), omega arith)
+
+returns-2 : tie.Need-returns-2
+unfolding eigenvaluesText
+returns-2 c = (rw (c .before .before .before .before .before .checked .given .1) (c .before .before .put-not-read .ensures .0), omega arith)
+
+pub put-answer-spec : {M : Type 1} → statement M
+put-answer-spec = tie.close (tie.spec (λ c. search needs) (λ c κs. omega arith) (λ c. search needs) (λ c κs. omega arith) (λ c. search needs) returns (λ c. search needs) returns-2)

@@ -1,0 +1,48 @@
+-- The text that `looproots` prints for an input, whatever its bytes are.
+use Prim.Native.Nat.{ℕ, _*_}
+use Prim.Native.Char.{code}
+use mathlib.Core.Bool.{true}
+use mathlib.Core.List.{List, _++_}
+use lib.ListN.{drop}
+use lib.Ieee.{Float, binary64, ofBits}
+use Rattle.pass.specs.Pair.{Pair, pair}
+use Rattle.refusal.specs.declared.refusal.Checked.{Checked}
+use Rattle.refusal.specs.declared.refusal.Checked.the-variants.{Passed, Refused}
+use Rattle.refusal.specs.Refusal.{toldOf}
+use Rattle.words.specs.Floats.{floatsOf, zeros}
+use Rattle.decomposition.specs.declared.Decomposed.{Decomposed}
+use Rattle.decomposition.specs.declared.Decomposed.the-variants.{Accepted, Declined}
+use Rattle.decomposition.specs.Decomposition.{Outcome, decompositionOf}
+use Rattle.eigenvalues.specs.Readers.{ComplexRead, complexRead}
+use Rattle.record.specs.declared.header.Header.{Header}
+use Rattle.record.specs.Text.{ascii, refusedLine, passesLine, matrixLines, eigenvalueLines}
+use Rattle.record.specs.Record.{headerOf, recordChecks}
+
+-- what the complex reader has answered
+unfoldable pub eigenvaluesText : ℕ → Checked → List Float → List Float → List ℕ
+eigenvaluesText n Passed re im = eigenvalueLines n re im
+eigenvaluesText n (Refused r) re im = ascii "eigenvalues " ++ refusedLine (toldOf r)
+
+-- it is asked of T
+unfoldable pub readText : ℕ → List Float → List ℕ
+readText n t = let x = complexRead n t (zeros n) (zeros n) in eigenvaluesText n (x .answer) (x .re) (x .im)
+
+-- what the decomposition has answered, and left as T and Q
+unfoldable pub decomposedText : ℕ → Decomposed → Pair → List ℕ
+decomposedText n (Accepted passes) p =
+    passesLine n passes ++ matrixLines (code "t") n (p .t) ++ matrixLines (code "q") n (p .q) ++ readText n (p .t)
+decomposedText n (Declined r) p = refusedLine (toldOf r)
+
+-- it is asked of the entries, which lie behind the header's 20 bytes
+unfoldable pub matrixText : Header → List Float → List ℕ
+matrixText h m =
+    let n = h .order in
+    let o = decompositionOf true n (ofBits binary64 (h .tolerance)) (h .budget) m (pair (zeros (n * n)) (zeros (n * n))) (zeros (2 * n)) in
+    decomposedText n (o .answer) (o .pair)
+
+unfoldable pub checkedText : Checked → Header → List ℕ → List ℕ
+checkedText Passed h b = matrixText h (floatsOf (drop 20 b))
+checkedText (Refused r) h b = refusedLine (toldOf r)
+
+unfoldable pub textOf : List ℕ → List ℕ
+textOf b = checkedText (recordChecks b) (headerOf b) b

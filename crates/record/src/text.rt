@@ -1,0 +1,218 @@
+// The text for a record: the header is checked, the matrix decomposed, T, Q and the eigenvalues are written out.
+ghost use mathlib.Core.Path.{_≡_};
+ghost use Prim.Native.Nat.{_+_, _*_, _<_, _≤_, _^_};
+ghost use lib.ListN.{length, drop};
+ghost use lib.Ieee.{binary64, ofBits};
+ghost use Rattle.io.specs.Counts.{Counts};
+ghost use Rattle.pass.specs.Pair.{pair};
+ghost use Rattle.refusal.specs.declared.refusal.Checked.the-variants.{Passed};
+ghost use Rattle.words.specs.Floats.{floatsOf};
+ghost use Rattle.decomposition.specs.declared.Decomposed.the-variants.{Accepted};
+ghost use Rattle.record.specs.Page.{page, printed, more};
+ghost use Rattle.record.specs.Record.{headerOf, headerChecks, recordChecks};
+ghost use Rattle.record.specs.Answer.{eigenvaluesText, readText, decomposedText, matrixText, textOf};
+use crate::header::Header;
+use crate::header::check;
+use crate::header::read_header;
+use crate::lines::put_eigenvalues;
+use crate::lines::put_matrix;
+use crate::lines::put_not_read;
+use crate::lines::put_passes;
+use crate::lines::put_refused;
+use decomposition::Decomposed;
+use refusal::Checked;
+use refusal::Refusal;
+
+// What the complex reader has answered.
+fn put_answer(text: &mut [u8], at: usize, n: usize, checked: Checked, re: &[f64], im: &[f64]) -> usize
+    requires { ⌜ (at + 1331 ≤ length (now text)) × (n ≤ 32) × (length (now re) ≡ n) × (length (now im) ≡ n) ⌝ }
+    ensures { λ r. ⌜ page r (now (text .exit)) ≡ more (eigenvaluesText n checked (now (re .entry)) (now (im .entry))) (page at (now (text .entry))) ⌝ }
+    ensures { λ r. ⌜ r ≤ at + 1331 ⌝ }
+{
+    match checked {
+        Checked::Passed => put_eigenvalues(text, at, n, re, im),
+        Checked::Refused(r) => put_not_read(text, at, r),
+    }
+}
+
+// The eigenvalues of T; re and im are for their parts.
+fn put_read(text: &mut [u8], at: usize, n: usize, t: &[f64], re: &mut [f64], im: &mut [f64]) -> usize
+    requires { ⌜ (at + 1331 ≤ length (now text)) × (n ≤ 32) × (length (now re) ≡ n) × (length (now im) ≡ n) ⌝ }
+    ensures { λ r. ⌜ page r (now (text .exit)) ≡ more (readText n (now (t .entry))) (page at (now (text .entry))) ⌝ }
+    ensures { λ r. ⌜ r ≤ at + 1331 ⌝ }
+{
+    matrix::fill(re, 0.0);
+    matrix::fill(im, 0.0);
+    let checked = eigenvalues::complex_eigenvalues(t, n, re, im);
+    put_answer(text, at, n, checked, re, im)
+}
+
+// An accepted decomposition.
+fn put_accepted(
+    text: &mut [u8],
+    n: usize,
+    passes: u64,
+    t: &[f64],
+    q: &[f64],
+    re: &mut [f64],
+    im: &mut [f64],
+) -> usize
+    requires { ⌜ (65536 ≤ length (now text)) × (n ≤ 32) × (length (now t) ≡ n * n) × (length (now q) ≡ n * n) × (length (now re) ≡ n) × (length (now im) ≡ n) ⌝ }
+    ensures { λ r. ⌜ page r (now (text .exit)) ≡ more (decomposedText n (Accepted passes) (pair (now (t .entry)) (now (q .entry)))) (page 0 (now (text .entry))) ⌝ }
+    ensures { λ r. ⌜ r ≤ 65536 ⌝ }
+{
+    let a = put_passes(text, 0, n, passes);
+    let b = put_matrix(text, a, b't', n, t);
+    let c = put_matrix(text, b, b'q', n, q);
+    put_read(text, c, n, t, re, im)
+}
+
+fn put_decomposed(
+    text: &mut [u8],
+    n: usize,
+    answer: Decomposed,
+    t: &[f64],
+    q: &[f64],
+    re: &mut [f64],
+    im: &mut [f64],
+) -> usize
+    requires { ⌜ (65536 ≤ length (now text)) × (n ≤ 32) × (length (now t) ≡ n * n) × (length (now q) ≡ n * n) × (length (now re) ≡ n) × (length (now im) ≡ n) ⌝ }
+    ensures { λ r. ⌜ page r (now (text .exit)) ≡ more (decomposedText n answer (pair (now (t .entry)) (now (q .entry)))) (page 0 (now (text .entry))) ⌝ }
+    ensures { λ r. ⌜ r ≤ 65536 ⌝ }
+{
+    match answer {
+        Decomposed::Accepted(passes) => put_accepted(text, n, passes, t, q, re, im),
+        Decomposed::Declined(r) => put_refused(text, 0, r),
+    }
+}
+
+// The matrix is decomposed; t, q and work are for T, Q and the workspace.
+fn put_matrix_text(
+    text: &mut [u8],
+    h: Header,
+    m: &[f64],
+    t: &mut [f64],
+    q: &mut [f64],
+    work: &mut [f64],
+    re: &mut [f64],
+    im: &mut [f64],
+) -> usize
+    requires { ⌜ (65536 ≤ length (now text)) × (h .order ≤ 32) × (length (now t) ≡ h .order * h .order) × (length (now q) ≡ h .order * h .order) × (length (now work) ≡ 2 * h .order)
+        × (length (now re) ≡ h .order) × (length (now im) ≡ h .order) ⌝ }
+    ensures { λ r. ⌜ page r (now (text .exit)) ≡ more (matrixText h (now (m .entry))) (page 0 (now (text .entry))) ⌝ }
+    ensures { λ r. ⌜ r ≤ 65536 ⌝ }
+{
+    let n = h.order;
+    matrix::fill(t, 0.0);
+    matrix::fill(q, 0.0);
+    matrix::fill(work, 0.0);
+    let eps = scalar::of_bits(h.tolerance);
+    let answer = decomposition::try_new(m, n, eps, h.budget, true, t, q, work);
+    put_decomposed(text, n, answer, t, q, re, im)
+}
+
+// The entries become floats first, in m.
+fn put_entries(
+    text: &mut [u8],
+    h: Header,
+    entries: &[u8],
+    m: &mut [f64],
+    t: &mut [f64],
+    q: &mut [f64],
+    work: &mut [f64],
+    re: &mut [f64],
+    im: &mut [f64],
+) -> usize
+    requires { ⌜ (65536 ≤ length (now text)) × (h .order ≤ 32) × (length (now t) ≡ h .order * h .order) × (length (now q) ≡ h .order * h .order) × (length (now work) ≡ 2 * h .order)
+        × (length (now re) ≡ h .order) × (length (now im) ≡ h .order) × (length (now entries) ≡ 8 * (h .order * h .order)) × (length (now m) ≡ h .order * h .order) ⌝ }
+    ensures { λ r. ⌜ page r (now (text .exit)) ≡ more (matrixText h (floatsOf (now (entries .entry)))) (page 0 (now (text .entry))) ⌝ }
+    ensures { λ r. ⌜ r ≤ 65536 ⌝ }
+{
+    words::decode(entries, m);
+    put_matrix_text(text, h, m, t, q, work, re, im)
+}
+
+// The same where what is lent for floats has room for order 32: what is needed is cut off.
+fn put_in_room(
+    text: &mut [u8],
+    h: Header,
+    entries: &[u8],
+    m: &mut [f64],
+    t: &mut [f64],
+    q: &mut [f64],
+    work: &mut [f64],
+    re: &mut [f64],
+    im: &mut [f64],
+) -> usize
+    requires { ⌜ (65536 ≤ length (now text)) × (h .order ≤ 32) × (length (now entries) ≡ 8 * (h .order * h .order)) × (length (now m) ≡ 1024) × (length (now t) ≡ 1024) × (length (now q) ≡ 1024)
+        × (length (now work) ≡ 64) × (length (now re) ≡ 32) × (length (now im) ≡ 32) ⌝ }
+    ensures { λ r. ⌜ page r (now (text .exit)) ≡ more (matrixText h (floatsOf (now (entries .entry)))) (page 0 (now (text .entry))) ⌝ }
+    ensures { λ r. ⌜ r ≤ 65536 ⌝ }
+{
+    let n = h.order;
+    let k = n * n;
+    put_entries(
+        text,
+        h,
+        entries,
+        &mut m[..k],
+        &mut t[..k],
+        &mut q[..k],
+        &mut work[..2 * n],
+        &mut re[..n],
+        &mut im[..n],
+    )
+}
+
+// The header has passed its checks.
+fn put_passed(text: &mut [u8], h: Header, entries: &[u8]) -> usize
+    requires { ⌜ (65536 ≤ length (now text)) × (h .order ≤ 32) × (length (now entries) ≡ 8 * (h .order * h .order)) ⌝ }
+    ensures { λ r. ⌜ page r (now (text .exit)) ≡ more (matrixText h (floatsOf (now (entries .entry)))) (page 0 (now (text .entry))) ⌝ }
+    ensures { λ r. ⌜ r ≤ 65536 ⌝ }
+{
+    let mut m = [0.0f64; 1024];
+    let mut t = [0.0f64; 1024];
+    let mut q = [0.0f64; 1024];
+    let mut work = [0.0f64; 64];
+    let mut re = [0.0f64; 32];
+    let mut im = [0.0f64; 32];
+    put_in_room(
+        text,
+        h,
+        entries,
+        &mut m,
+        &mut t,
+        &mut q,
+        &mut work,
+        &mut re,
+        &mut im,
+    )
+}
+
+// A record with a whole header.
+fn put_record(text: &mut [u8], input: &[u8]) -> usize
+    requires { ⌜ (65536 ≤ length (now text)) × (20 ≤ length (now input)) ⌝ }
+    ensures { λ r. ⌜ page r (now (text .exit)) ≡ more (textOf (now (input .entry))) (page 0 (now (text .entry))) ⌝ }
+    ensures { λ r. ⌜ r ≤ 65536 ⌝ }
+{
+    let h = read_header(input);
+    match check(h, input.len() as u64) {
+        Checked::Refused(r) => put_refused(text, 0, r),
+        Checked::Passed => put_passed(text, h, &input[20..]),
+    }
+}
+
+// The text for an input, whatever its bytes are, at the front of `text`; its length is answered. Where less than
+// 65,536 bytes are lent for it nothing is done, and 0 is answered.
+pub fn answer(input: &[u8], text: &mut [u8]) -> usize
+    ensures { λ r. ⌜ page r (now (text .exit)) ≡ printed (textOf (now (input .entry))) (now (text .entry)) ⌝ }
+    ensures { λ r. ⌜ Counts r (now (text .exit)) ⌝ }
+{
+    if text.len() < 65536 {
+        return 0;
+    }
+    if input.len() < 20 {
+        return put_refused(text, 0, Refusal::InputCutShort);
+    }
+    put_record(text, input)
+}
