@@ -33,10 +33,10 @@ fn after_read(done: usize, room: usize, got: isize) -> Reading
     if got < 0 {
         return Reading::Broken;
     }
-    if got == 0 {
+    let came = got as usize;
+    if came == 0 {
         return Reading::End;
     }
-    let came = got as usize;
     if came < room {
         return Reading::More(done + came);
     }

@@ -24,7 +24,14 @@ use refusal::Checked;
 use refusal::Refusal;
 
 // What the complex reader has answered.
-fn put_answer(text: &mut [u8], at: usize, n: usize, checked: Checked, re: &[f64], im: &[f64]) -> usize
+fn put_answer(
+    text: &mut [u8],
+    at: usize,
+    n: usize,
+    checked: Checked,
+    re: &[f64],
+    im: &[f64],
+) -> usize
     requires { ⌜ (at + 1331 ≤ length (now text)) × (n ≤ 32) × (length (now re) ≡ n) × (length (now im) ≡ n) ⌝ }
     ensures { λ r. ⌜ page r (now (text .exit)) ≡ more (eigenvaluesText n checked (now (re .entry)) (now (im .entry))) (page at (now (text .entry))) ⌝ }
     ensures { λ r. ⌜ r ≤ at + 1331 ⌝ }
@@ -36,7 +43,14 @@ fn put_answer(text: &mut [u8], at: usize, n: usize, checked: Checked, re: &[f64]
 }
 
 // The eigenvalues of T; re and im are for their parts.
-fn put_read(text: &mut [u8], at: usize, n: usize, t: &[f64], re: &mut [f64], im: &mut [f64]) -> usize
+fn put_read(
+    text: &mut [u8],
+    at: usize,
+    n: usize,
+    t: &[f64],
+    re: &mut [f64],
+    im: &mut [f64],
+) -> usize
     requires { ⌜ (at + 1331 ≤ length (now text)) × (n ≤ 32) × (length (now re) ≡ n) × (length (now im) ≡ n) ⌝ }
     ensures { λ r. ⌜ page r (now (text .exit)) ≡ more (readText n (now (t .entry))) (page at (now (text .entry))) ⌝ }
     ensures { λ r. ⌜ r ≤ at + 1331 ⌝ }

@@ -35,7 +35,7 @@ check-spec = tie.close (tie.spec
     (λ c. rw (kind-right (c .before .before), order-some (c .before), lt-ltb _ _ (c .if3 .taken)))
     (λ c κs. omega arith)
     (λ c. let h = c .before .before .before .before .before .before .args .h in
-      rw (kind-right (c .before .before .before .before), order-some (c .before .before .before), order-small (c .before .before), ne-eqb (h .length) (16 + 8 * (h .order * h .order)) (λ e. c .if4 .taken (e ∙ sym (c .before .told .ensures)))))
+    rw (kind-right (c .before .before .before .before), order-some (c .before .before .before), order-small (c .before .before), ne-eqb (h .length) (16 + 8 * (h .order * h .order)) (λ e. c .if4 .taken (e ∙ sym (c .before .told .ensures)))))
     (λ c. omega arith)
     (λ c. rw (kind-right (c .before .before .before .before .before), order-some (c .before .before .before .before), order-small (c .before .before .before), length-right (c .before), lt-ltb _ _ (c .if5 .taken)))
     (λ c. omega arith)

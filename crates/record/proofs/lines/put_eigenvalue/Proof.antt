@@ -12,9 +12,11 @@ use Rattle.record.proofs.lines.put_eigenvalue.Tie as tie
 returns : tie.Need-returns
 unfolding eigenvalueLine ascii
 returns c =
-    let x = c .before .before .before .before .before .before .before .before .before .before .before .before .before .before .before .before .before .before .before .before .before .before .before .before .args in
-    (line-put (page (x .at) (x .text .now)) (ascii "e") (number (x .k)) (pattern (toBits binary64 (x .re))) (pattern (toBits binary64 (x .im))) newline
-    (c .before .before .before .before .before .before .before .before .before .before .before .before .before .before .before .before .before .before .before .before .put .ensures .0) (c .before .before .before .before .before .before .before .before .before .before .before .before .before .before .before .before .put-number .ensures .0) (rw (c .before .before .before .before .before .before .before .before .before .before .before .before .bits-of .ensures) at (c .before .before .before .before .before .before .before .before .before .before .before .put-pattern .ensures .0)) (rw (c .before .before .before .before .before .before .before .bits-of2 .ensures) at (c .before .before .before .before .before .before .put-pattern2 .ensures .0)) (c .before .before .put-byte .ensures .0), omega (arith, decimal-32 (x .k) (omega arith)))
+    let x = c .before .before .before .before .before .before .before .before .before .before .before .before .before .before .before .before .before .before .before .before .before .before .before .before .args in (
+      line-put (page (x .at) (x .text .now)) (ascii "e") (number (x .k)) (pattern (toBits binary64 (x .re))) (pattern (toBits binary64 (x .im))) newline
+          (c .before .before .before .before .before .before .before .before .before .before .before .before .before .before .before .before .before .before .before .before .put .ensures .0) (c .before .before .before .before .before .before .before .before .before .before .before .before .before .before .before .before .put-number .ensures .0) (rw (c .before .before .before .before .before .before .before .before .before .before .before .before .bits-of .ensures) at (c .before .before .before .before .before .before .before .before .before .before .before .put-pattern .ensures .0)) (rw (c .before .before .before .before .before .before .before .bits-of2 .ensures) at (c .before .before .before .before .before .before .put-pattern2 .ensures .0)) (c .before .before .put-byte .ensures .0),
+      omega (arith, decimal-32 (x .k) (omega arith)),
+    )
 
 pub put-eigenvalue-spec : {M : Type 1} → statement M
 put-eigenvalue-spec = tie.close (tie.spec (λ c. search needs)

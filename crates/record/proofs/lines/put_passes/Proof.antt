@@ -11,9 +11,11 @@ use Rattle.record.proofs.lines.put_passes.Tie as tie
 returns : tie.Need-returns
 unfolding passesLine ascii
 returns c =
-    let x = c .before .before .before .before .before .before .before .before .before .before .before .before .before .before .before .before .before .before .before .before .before .before .before .args in
-    (line-put (page (x .at) (x .text .now)) (ascii "order") (number (x .n)) (ascii " passes") (number (x .passes)) newline
-    (c .before .before .before .before .before .before .before .before .before .before .before .before .before .before .before .before .before .before .before .put .ensures .0) (c .before .before .before .before .before .before .before .before .before .before .before .before .before .before .before .put-number .ensures .0) (c .before .before .before .before .before .before .before .before .before .before .put2 .ensures .0) (c .before .before .before .before .before .before .put-number2 .ensures .0) (c .before .before .put-byte .ensures .0), omega (arith, decimal-64 (x .n) (omega arith), decimal-64 (x .passes) (omega arith)))
+    let x = c .before .before .before .before .before .before .before .before .before .before .before .before .before .before .before .before .before .before .before .before .before .before .before .args in (
+      line-put (page (x .at) (x .text .now)) (ascii "order") (number (x .n)) (ascii " passes") (number (x .passes)) newline
+          (c .before .before .before .before .before .before .before .before .before .before .before .before .before .before .before .before .before .before .before .put .ensures .0) (c .before .before .before .before .before .before .before .before .before .before .before .before .before .before .before .put-number .ensures .0) (c .before .before .before .before .before .before .before .before .before .before .put2 .ensures .0) (c .before .before .before .before .before .before .put-number2 .ensures .0) (c .before .before .put-byte .ensures .0),
+      omega (arith, decimal-64 (x .n) (omega arith), decimal-64 (x .passes) (omega arith)),
+    )
 
 pub put-passes-spec : {M : Type 1} → statement M
 put-passes-spec = tie.close (tie.spec (λ c. search needs)

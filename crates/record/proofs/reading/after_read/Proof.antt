@@ -1,38 +1,33 @@
+-- `record::reading::after_read` meets its contract. Assumes nothing.
 use native.Mathlib.Omega.{arith}
-use borrow.Author.Needs.{needs}
+use mathlib.Core.Path.{_≡_, ap, _∙_}
+use lib.Dec.{T}
+use lib.IntN.{ℤ}
+use lib.Signed.{nonNeg}
+use mir.Syntax.{w64}
+use mir.Val.{toZ, ofZ}
+use mir.Facts.{toZ-ofZ, fits-natAbs, sfits-toZ, fits-ofZ}
+use Rattle.record.specs.Reading.{afterRead}
+use Rattle.record.proofs.Arriving.{not-below, broken, ended, some-came, all-came}
 use Rattle.record.proofs.reading.after_read.Statement.{statement}
 use Rattle.record.proofs.reading.after_read.Tie as tie
-use Rattle.record.proofs.reading.after_read.Reads as reads
-use Rattle.record.proofs.reading.after_read.Lts as lts
 
--- src/reading.rt:34:9
-returns : tie.Need-returns
-returns c = omega arith
+-- what the machine has read back from the answer's bits is the answer
+abbrev read : tie.Start → ℤ
+read c = toZ w64 (ofZ w64 (c .args .got))
 
--- src/reading.rt:37:9
-returns-2 : tie.Need-returns-2
-returns-2 c = omega arith
+same : (c : tie.Start) → afterRead (c .args .done) (c .args .room) (read c) ≡ afterRead (c .args .done) (c .args .room) (c .args .got)
+same c = ap (afterRead (c .args .done) (c .args .room)) (toZ-ofZ (c .fits .got))
 
--- src/reading.rt:39:16
-cast-came : tie.Need-cast-came
-cast-came c = omega arith
-
--- src/reading.rt:41:30
-add-t6 : tie.Need-add-t6
-add-t6 c = search needs
-
--- src/reading.rt:41:9
-returns-3 : tie.Need-returns-3
-returns-3 c = omega arith
-
--- src/reading.rt:43:19
-add-t7 : tie.Need-add-t7
-add-t7 c = search needs
-
--- src/reading.rt:29:1
-returns-4 : tie.Need-returns-4
-returns-4 c = omega arith
+good : (c : tie.Else1) → T (nonNeg (read (c .before)))
+good c = not-below (read (c .before)) (c .if1 .left)
 
 pub after-read-spec : {M : Type 1} → statement M
-after-read-spec =
-    tie.close (tie.spec returns returns-2 cast-came add-t6 returns-3 add-t7 returns-4)
+after-read-spec = tie.close (tie.spec
+    (λ c. let s = c .before in broken (s .args .done) (s .args .room) (read s) (c .if1 .taken) ∙ same s)
+    (λ c. (good c, fits-natAbs {w = w64} {w′ = w64} tt (sfits-toZ (fits-ofZ (c .before .fits .got)))))
+    (λ c. let s = c .before .before in ended (s .args .done) (s .args .room) (read s) (good (c .before)) (c .if2 .taken) ∙ same s)
+    (λ c. omega arith)
+    (λ c. let s = c .before .before .before in some-came (s .args .done) (s .args .room) (read s) (good (c .before .before)) (c .before .if2 .left) (c .if3 .taken) ∙ same s)
+    (λ c. omega arith)
+    (λ c. let s = c .before .before .before in all-came (s .args .done) (s .args .room) (read s) (good (c .before .before)) (c .before .if2 .left) (c .if3 .left) ∙ same s))

@@ -14,9 +14,10 @@ returns c = let x = c .before .before .before .args in (none-printed _ (x .text 
 
 returns-2 : tie.Need-returns-2
 returns-2 c =
-    let x = c .before .before .before .before .before .before .before .before .args in
-    (all-printed _ (x .text .now) (c .before .before .before .before .before .if1 .left) (omega arith) (c .before .before .put-refused .ensures .0 ∙ ap (λ s. more s (page 0 (x .text .now))) (sym (short-text (x .input .now) (c .before .before .before .before .if2 .taken)))),
-      (omega arith, sym (length-take-le _ _ (omega arith))))
+    let x = c .before .before .before .before .before .before .before .before .args in (
+      all-printed _ (x .text .now) (c .before .before .before .before .before .if1 .left) (omega arith) (c .before .before .put-refused .ensures .0 ∙ ap (λ s. more s (page 0 (x .text .now))) (sym (short-text (x .input .now) (c .before .before .before .before .if2 .taken)))),
+      (omega arith, sym (length-take-le _ _ (omega arith))),
+    )
 
 returns-3 : tie.Need-returns-3
 returns-3 c =

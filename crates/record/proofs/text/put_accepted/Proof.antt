@@ -17,10 +17,12 @@ returns c =
     let p = page 0 (x .text .now) in
     let first = passesLine (x .n) (x .passes) in
     let second = matrixLines 116 (x .n) (x .t .now) in
-    let third = matrixLines 113 (x .n) (x .q .now) in
-    (both-put p (first ++ second ++ third) (readText (x .n) (x .t .now))
-    (both-put p (first ++ second) third (both-put p first second (c .before .before .before .before .before .before .before .before .before .before .before .before .before .before .before .before .before .before .before .before .put-passes .ensures .0) (c .before .before .before .before .before .before .before .before .before .before .before .before .before .before .before .before .put-matrix .ensures .0)) (c .before .before .before .before .before .before .before .before .before .before .before .before .put-matrix2 .ensures .0))
-    (c .before .before .before .before .before .before .put-read .ensures .0), omega (arith, square-32 (x .n) (omega arith)))
+    let third = matrixLines 113 (x .n) (x .q .now) in (
+      both-put p (first ++ second ++ third) (readText (x .n) (x .t .now))
+          (both-put p (first ++ second) third (both-put p first second (c .before .before .before .before .before .before .before .before .before .before .before .before .before .before .before .before .before .before .before .before .put-passes .ensures .0) (c .before .before .before .before .before .before .before .before .before .before .before .before .before .before .before .before .put-matrix .ensures .0)) (c .before .before .before .before .before .before .before .before .before .before .before .before .put-matrix2 .ensures .0))
+          (c .before .before .before .before .before .before .put-read .ensures .0),
+      omega (arith, square-32 (x .n) (omega arith)),
+    )
 
 pub put-accepted-spec : {M : Type 1} → statement M
 put-accepted-spec = tie.close (tie.spec (λ c κs. omega arith)

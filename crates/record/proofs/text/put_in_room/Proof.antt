@@ -11,5 +11,5 @@ put-in-room-spec = tie.close (tie.spec (λ c. omega (arith, square-32 (c .before
     (λ c. omega (arith, square-32 (c .before .before .before .before .before .before .before .before .before .args .h .order) (omega arith))) (λ c. sym (length-take-le _ _ (omega (arith, square-32 (c .before .before .before .before .before .before .before .before .before .before .args .h .order) (omega arith))))) (λ c. omega (arith, square-32 (c .before .before .before .before .before .before .before .before .before .before .args .h .order) (omega arith))) (λ c. sym (length-take-le _ _ (omega (arith, square-32 (c .before .before .before .before .before .before .before .before .before .before .before .args .h .order) (omega arith))))) (λ c. omega (arith, square-32 (c .before .before .before .before .before .before .before .before .before .before .before .args .h .order) (omega arith))) (λ c. sym (length-take-le _ _ (omega (arith, square-32 (c .before .before .before .before .before .before .before .before .before .before .before .before .args .h .order) (omega arith)))))
     (λ c. omega arith) (λ c. omega arith) (λ c. sym (length-take-le _ _ (omega arith))) (λ c. omega arith) (λ c. sym (length-take-le _ _ (omega arith))) (λ c. omega arith) (λ c. sym (length-take-le _ _ (omega arith)))
     (λ c κs. let pre = c .before .before .before .before .before .before .before .before .before .before .before .before .before .before .before .pre in
-      (pre .0, pre .1, length-take-le _ _ (omega (arith, square-32 (c .before .before .before .before .before .before .before .before .before .before .before .before .before .before .before .args .h .order) (omega arith))), length-take-le _ _ (omega (arith, square-32 (c .before .before .before .before .before .before .before .before .before .before .before .before .before .before .before .args .h .order) (omega arith))), length-take-le _ _ (omega arith), length-take-le _ _ (omega arith), length-take-le _ _ (omega arith), pre .2, length-take-le _ _ (omega (arith, square-32 (c .before .before .before .before .before .before .before .before .before .before .before .before .before .before .before .args .h .order) (omega arith)))))
+    (pre .0, pre .1, length-take-le _ _ (omega (arith, square-32 (c .before .before .before .before .before .before .before .before .before .before .before .before .before .before .before .args .h .order) (omega arith))), length-take-le _ _ (omega (arith, square-32 (c .before .before .before .before .before .before .before .before .before .before .before .before .before .before .before .args .h .order) (omega arith))), length-take-le _ _ (omega arith), length-take-le _ _ (omega arith), length-take-le _ _ (omega arith), pre .2, length-take-le _ _ (omega (arith, square-32 (c .before .before .before .before .before .before .before .before .before .before .before .before .before .before .before .args .h .order) (omega arith)))))
     (λ c. omega arith) (λ c. omega arith) (λ c. omega arith) (λ c. omega arith) (λ c. omega arith) (λ c. omega arith) (λ c. omega arith) (λ c. c .before .before .before .before .before .before .before .before .before .before .before .before .before .before .put-entries .ensures))
