@@ -5,3 +5,4 @@ pub mod Page
 pub mod Record
 pub mod Answer
 pub mod Reading
+pub mod Known

@@ -19,7 +19,7 @@ order-some : (c : tie.Else2) → eqb (c .before .before .before .args .h .order)
 order-some c = ne-eqb _ _ (c .if2 .left)
 
 order-small : (c : tie.Else3) → ltb 32 (c .before .before .before .before .args .h .order) ≡ false
-order-small c = le-ltb _ _ (c .if3 .left)
+order-small c = le-ltb 32 (c .before .before .before .before .args .h .order) (omega arith)
 
 length-right : (c : tie.Else4) → let h = c .before .before .before .before .before .before .args .h in eqb (h .length) (16 + 8 * (h .order * h .order)) ≡ true
 length-right c = let h = c .before .before .before .before .before .before .args .h in eq-eqb (h .length) (16 + 8 * (h .order * h .order)) (omega arith)

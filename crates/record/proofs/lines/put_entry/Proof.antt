@@ -21,7 +21,7 @@ returns c =
 
 pub put-entry-spec : {M : Type 1} → statement M
 put-entry-spec = tie.close (tie.spec (λ c κs. omega arith)
-    (λ c κs. let x = c .before .before .before .before .before .before .args in omega (arith, decimal-32 (x .row) (omega arith)))
+    (λ c κs. let x = c .before .before .before .before .before .before .args in omega (arith, decimal-32 (x .row) (omega arith), decimal-32 (x .col) (omega arith)))
     (λ c κs. let x = c .before .before .before .before .before .before .before .before .before .before .args in omega (arith, decimal-32 (x .row) (omega arith), decimal-32 (x .col) (omega arith)))
     (λ c κs. omega arith)
     (λ c κs. let x = c .before .before .before .before .before .before .before .before .before .before .before .before .before .before .before .args in omega (arith, decimal-32 (x .row) (omega arith), decimal-32 (x .col) (omega arith)))
