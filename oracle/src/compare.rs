@@ -8,10 +8,10 @@ mod faults;
 #[cfg(test)]
 mod model_side;
 mod reached;
-mod shapes;
+pub mod shapes;
 mod side;
 mod trial;
-mod witnesses;
+pub mod witnesses;
 
 use crate::call::{Call, Entry};
 use crate::jobs;
@@ -19,14 +19,14 @@ use crate::judge::Judge;
 use crate::options;
 use crate::random::Random;
 use check::check;
-use faults::{Bases, Plan};
-use reached::Reached;
 use side::{Side, DOOR};
 use std::ops::RangeInclusive;
 use std::time::Instant;
 
-pub use case::Case;
-pub use families::FAMILIES;
+pub use case::{Case, TOLERANCES};
+pub use families::{one_in, FAMILIES};
+pub use faults::{Bases, Plan};
+pub use reached::Reached;
 
 /// Each family is cut into this many parts, which threads take one by one. The matrices of a part
 /// depend on its number and the seed, never on the thread.

@@ -18,6 +18,7 @@ mod numbers;
 mod options;
 mod outcomes;
 mod random;
+mod replay;
 mod root;
 mod scalar;
 mod speed;
@@ -53,6 +54,7 @@ const COMMANDS: &[(&str, &str, Run)] = &[
     ),
     ("leaves", "[--write]", leaves::run),
     ("outcomes", "[--write]", outcomes::run),
+    ("replay", "[--write]", replay::run),
     ("root", "[--count MILLIONS] [--seed HEX]", root::run),
     ("scalar", "[--write]", scalar::run),
     ("speed", "[--repeat TIMES] [--seed HEX]", speed::run),
