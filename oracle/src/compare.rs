@@ -26,7 +26,7 @@ use std::time::Instant;
 pub use case::{Case, TOLERANCES};
 pub use families::{one_in, FAMILIES};
 pub use faults::{Bases, Plan};
-pub use reached::Reached;
+pub use reached::{possible, Reached};
 
 /// Each family is cut into this many parts, which threads take one by one. The matrices of a part
 /// depend on its number and the seed, never on the thread.

@@ -6,24 +6,14 @@
 //! library has no part in it.
 
 mod cases;
+mod covered;
 mod list;
 
-use crate::compare::{FAMILIES, TOLERANCES};
-use cases::Made;
 use std::fs;
 
 /// Seen from this package's folder, where cargo runs the program.
 const LIST: &str = "../crates/replay/stdin";
 const LINES: &str = "../crates/replay/stdout";
-
-/// What each entry can come to: with Q, without Q, the two readers, the plain entry.
-const POSSIBLE: [&[u8]; 5] = [
-    &[0, 1, 2, 3, 4, 5, 6, 7, 8, 9],
-    &[0, 1, 2, 3, 4, 5, 6, 7, 8, 9],
-    &[0, 1, 2, 3, 6, 9, 10],
-    &[0, 1, 2, 3, 6, 8, 9, 11],
-    &[0, 1, 2, 3, 6, 7, 8, 9, 10],
-];
 
 pub fn run(arguments: &[String]) -> Result<usize, String> {
     let write = match arguments {
@@ -34,10 +24,10 @@ pub fn run(arguments: &[String]) -> Result<usize, String> {
     let made = cases::all();
     let page = made.list.page();
     print!("{page}");
-    tell(&made);
-    let missing = missing(&made);
+    made.covered.print(&made.list);
+    let missing = made.covered.missing(&made.list);
     if !missing.is_empty() {
-        return Err(format!("the list does not have {}", missing.join(", ")));
+        return Err(format!("the list lacks {}", missing.join(", ")));
     }
     if write {
         fs::write(LIST, &made.list.bytes).map_err(|why| format!("{LIST}: {why}"))?;
@@ -45,75 +35,39 @@ pub fn run(arguments: &[String]) -> Result<usize, String> {
     }
     let differences = differs(LIST, &made.list.bytes)? + differs(LINES, page.as_bytes())?;
     println!(
-        "{} cases in {} bytes, {differences} of 2 files differ",
+        "{} cases, {} bytes, {differences} of 2 files differ",
         made.list.cases(),
         made.list.bytes.len()
     );
     Ok(differences)
 }
 
-/// 1 if a file is not as it should be, 0 if it is.
+/// 1 if a file is not as it should be, and where that begins; 0 if it is.
 fn differs(file: &str, right: &[u8]) -> Result<usize, String> {
     let stored = fs::read(file).map_err(|why| format!("{file}: {why}"))?;
     if stored == right {
         return Ok(0);
     }
-    let same = stored.iter().zip(right).take_while(|(x, y)| x == y);
+    let same = stored.iter().zip(right).take_while(|(x, y)| x == y).count();
     println!(
-        "{file}: {} bytes for {}, other ones from byte {} on",
+        "{file} has {} bytes, right are {}; it differs from byte {same} on",
         stored.len(),
-        right.len(),
-        same.count()
+        right.len()
     );
     Ok(1)
 }
 
-fn tell(made: &Made) {
-    let covered = &made.covered;
-    println!(
-        "refused at the count and ended above it: {} runs with Q, {} without; with 8 or 9: {} and {}",
-        covered.counted[0], covered.counted[1], covered.counted_refused[0], covered.counted_refused[1]
-    );
-    println!("accepted at each tolerance: {:?}", covered.tolerances);
-    println!("accepted of each family: {:?}", covered.families);
-    println!(
-        "witnesses: {}; refused for the length of each slice: {:?}",
-        covered.witnesses, covered.lengths
-    );
-}
+#[cfg(test)]
+mod tests {
+    use super::cases;
 
-/// What the list is to have and has not.
-fn missing(made: &Made) -> Vec<String> {
-    let covered = &made.covered;
-    let mut missing = Vec::new();
-    for (entry, numbers) in (1..).zip(POSSIBLE) {
-        for number in numbers
-            .iter()
-            .filter(|number| made.list.met(entry, **number) == 0)
-        {
-            missing.push(format!("entry {entry} with {number}"));
-        }
+    /// The list lacks nothing, has the size that is meant, and is the same every time.
+    #[test]
+    fn the_list_is_what_it_is_to_be() {
+        let [first, second] = [cases::all(), cases::all()];
+        assert!(first.covered.missing(&first.list).is_empty());
+        assert!((2000..=4000).contains(&first.list.cases()));
+        assert!(first.list.bytes.len() < 2_500_000);
+        assert!(first.list.bytes == second.list.bytes);
     }
-    for (wanted, place) in [("with Q", 0), ("without Q", 1)] {
-        if covered.counted[place] == covered.counted_refused[place] {
-            missing.push(format!(
-                "budgets about the count of an accepted run {wanted}"
-            ));
-        }
-        if covered.counted_refused[place] == 0 {
-            missing.push(format!("budgets about the count of a refused run {wanted}"));
-        }
-    }
-    let mut zero = |what: &str, counts: &[usize], name: &dyn Fn(usize) -> String| {
-        let none = (0..counts.len()).filter(|place| counts[*place] == 0);
-        missing.extend(none.map(|place| format!("{what} {}", name(place))));
-    };
-    zero("tolerance", &covered.tolerances, &|k| {
-        format!("{:e}", TOLERANCES[k])
-    });
-    zero("family", &covered.families, &|k| {
-        FAMILIES[k].name.to_string()
-    });
-    zero("length of slice", &covered.lengths, &|k| k.to_string());
-    missing
 }

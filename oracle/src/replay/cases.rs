@@ -1,5 +1,6 @@
-//! Which cases the list has.
+//! Which cases the list has. They are drawn from a fixed seed, so the list is always the same.
 
+use super::covered::Covered;
 use super::list::{List, Slot};
 use crate::call::{Call, Entry};
 use crate::compare::{one_in, shapes, witnesses, Bases, Case, Plan, FAMILIES, TOLERANCES};
@@ -8,12 +9,9 @@ use crate::numbers::between;
 use crate::options::SEED;
 use crate::random::Random;
 
-/// Matrices of a family at each tolerance, and at the usual one besides.
-const EACH: usize = 1;
-const USUAL: usize = 7;
-
-/// The orders of those matrices.
+/// The orders of a family's matrices: one at each tolerance, and so many at the usual one besides.
 const SMALL: (usize, usize) = (1, 12);
+const USUAL: usize = 7;
 
 /// The order of each family's large matrix, at the usual tolerance.
 const LARGE: [usize; FAMILIES.len()] = [
@@ -23,24 +21,12 @@ const LARGE: [usize; FAMILIES.len()] = [
 /// T's made for the readers.
 const SHAPES: usize = 160;
 
-/// So many passes the plain entry may take, but for the cases made for more.
-const PATIENCE: u64 = 400;
+/// Cycles, for the plain entry: on that of order 6 the passes stand still.
+const CYCLES: (usize, usize) = (3, 12);
 
-/// How often a thing was asked for that the list is to have.
-#[derive(Default)]
-pub struct Covered {
-    /// Runs with a count of 1 and more, refused there and ended at the next budget: with Q and without.
-    pub counted: [usize; 2],
-    /// Those among them that end with 8 or 9.
-    pub counted_refused: [usize; 2],
-    /// Matrices at each tolerance that are accepted.
-    pub tolerances: [usize; TOLERANCES.len()],
-    /// The matrices of each family that are accepted, and the witnesses.
-    pub families: [usize; FAMILIES.len()],
-    pub witnesses: usize,
-    /// Calls refused with 3 for each of the four slices alone.
-    pub lengths: [usize; 4],
-}
+/// A matrix on which the plain entry does not end within so many passes is left out: most of these take all
+/// of its 10,000.
+const PATIENCE: u64 = 400;
 
 /// The list, and what it covers.
 pub struct Made {
@@ -57,9 +43,7 @@ pub fn all() -> Made {
         judge: Judge::default(),
         random: Random::stream(SEED, 0),
     };
-    for number in 0..FAMILIES.len() {
-        made.family(number);
-    }
+    (0..FAMILIES.len()).for_each(|number| made.family(number));
     made.witnesses();
     made.shapes();
     made.faults();
@@ -72,25 +56,23 @@ impl Made {
     fn family(&mut self, number: usize) {
         let family = &FAMILIES[number];
         self.list.group(family.name);
-        let usual = [f64::EPSILON; USUAL];
-        let small = TOLERANCES
-            .repeat(EACH)
-            .into_iter()
-            .chain(usual)
-            .map(|tolerance| (SMALL, tolerance));
-        let order = LARGE[number];
-        for ((first, last), tolerance) in small.chain([((order, order), f64::EPSILON)]) {
+        let small = TOLERANCES.into_iter().chain([f64::EPSILON; USUAL]);
+        let large = (LARGE[number], LARGE[number]);
+        let all = small.map(|tolerance| (SMALL, tolerance));
+        for ((first, last), tolerance) in all.chain([(large, f64::EPSILON)]) {
             let order = between(&mut self.random, first, last);
-            let case = Case {
+            let entries = (family.entries)(&mut self.random, order);
+            let accepted = self.matrix(&Case {
                 order,
-                entries: (family.entries)(&mut self.random, order),
+                entries,
                 tolerance,
                 budget: 30 * order.max(4) as u64,
-            };
-            self.covered.families[number] += self.matrix(&case) as usize;
+            });
+            self.covered.families[number] += usize::from(accepted);
         }
     }
 
+    /// Each as it stands, and at every tolerance.
     fn witnesses(&mut self) {
         self.list.group("witnesses");
         for witness in witnesses::kept() {
@@ -108,9 +90,9 @@ impl Made {
         }
     }
 
-    /// A matrix at its tolerance: the decomposition with Q and without, at its budget, and where the run
-    /// ends at its count, one above and two above; both readers on the T of the run; the plain entry.
-    /// Whether it is accepted.
+    /// A matrix at its tolerance: the decomposition with Q and without, at its budget, or, where the run
+    /// ends there, at its count, one above, and further up; both readers on the T of the run; the plain
+    /// entry. Whether it is accepted.
     fn matrix(&mut self, case: &Case) -> bool {
         let Case {
             order,
@@ -118,20 +100,19 @@ impl Made {
             tolerance,
             budget,
         } = case;
-        let passes = self.judge.passes(*order, entries, *tolerance, *budget);
-        let budgets = match passes {
+        let budgets = match self.judge.passes(*order, entries, *tolerance, *budget) {
             None => vec![*budget],
             Some(0) => vec![1, 2],
             Some(count) => vec![count, count + 1, (count + 2).max(*budget)],
         };
         let mut accepted = false;
         for wanted in [true, false] {
-            let answers: Vec<Answer> = budgets
-                .iter()
+            let answers = budgets.iter();
+            let answers: Vec<Answer> = answers
                 .map(|budget| self.decompose(case, *budget, wanted))
                 .collect();
             accepted = answers.last().is_some_and(|answer| answer.number() == 0);
-            self.counted(&answers, wanted);
+            self.covered.count(&answers, wanted);
         }
         if let Some(t) = self.judge.t(*order, entries, *tolerance, *budget) {
             self.read(*order, &t, Slot::T);
@@ -139,24 +120,10 @@ impl Made {
         if *order <= 2 || self.judge.plain_ends(*order, entries, PATIENCE) {
             self.plain(*order, entries);
         }
-        let place = TOLERANCES
-            .iter()
-            .position(|x| x.to_bits() == tolerance.to_bits());
-        if let (true, Some(place)) = (accepted, place) {
-            self.covered.tolerances[place] += 1;
+        for (at, count) in TOLERANCES.iter().zip(&mut self.covered.tolerances) {
+            *count += usize::from(accepted && at.to_bits() == tolerance.to_bits());
         }
         accepted
-    }
-
-    fn counted(&mut self, answers: &[Answer], wanted: bool) {
-        let [at, above, two_above] = answers else {
-            return;
-        };
-        let place = usize::from(!wanted);
-        if at.number() == 7 && above == two_above && above.number() != 7 {
-            self.covered.counted[place] += 1;
-            self.covered.counted_refused[place] += usize::from(above.number() != 0);
-        }
     }
 
     fn decompose(&mut self, case: &Case, budget: u64, wanted: bool) -> Answer {
@@ -176,14 +143,13 @@ impl Made {
         }
     }
 
-    fn plain(&mut self, order: usize, entries: &[f64]) -> Answer {
-        self.make(&Call::new(Entry::Plain, order, entries), Slot::Matrix)
+    fn plain(&mut self, order: usize, entries: &[f64]) {
+        self.make(&Call::new(Entry::Plain, order, entries), Slot::Matrix);
     }
 
-    /// With a workspace of the length that is right.
+    /// A case whose workspace has its length.
     fn make(&mut self, call: &Call, slot: Slot) -> Answer {
-        let work = work(call);
-        self.list.case(&mut self.judge, call, slot, work)
+        self.list.case(&mut self.judge, call, slot, work(call))
     }
 
     /// T's made block by block, a quarter of them damaged.
@@ -200,7 +166,7 @@ impl Made {
     }
 
     /// Calls with no fault, one or two at once of every kind that is checked before a run, on matrices and
-    /// T's of every outcome: one of each plan that takes no time.
+    /// T's of every outcome; those left out whose bytes are no numbers, and those that take long.
     fn faults(&mut self) {
         self.list.group("calls with faults");
         let bases = Bases::gather(&mut self.random);
@@ -221,11 +187,9 @@ impl Made {
     fn edges(&mut self) {
         self.list.group("edges");
         for entry in Entry::ALL {
-            for (slice, by) in [0, 1, 2, 3]
-                .into_iter()
-                .flat_map(|slice| [(slice, -1), (slice, 1)])
-            {
-                self.one_length(&Call::new(entry, 3, &[1.0; 9]), slice, by);
+            for slice in 0..4 {
+                self.one_length(&Call::new(entry, 3, &[1.0; 9]), slice, -1);
+                self.one_length(&Call::new(entry, 3, &[1.0; 9]), slice, 1);
             }
             for order in [0, 64, 65] {
                 let call = Call::new(entry, order, &vec![0.0; order * order]);
@@ -246,6 +210,7 @@ impl Made {
 
     /// Slices are counted with the one that is read first; the last is the workspace.
     fn one_length(&mut self, right: &Call, slice: usize, by: isize) {
+        let longer = |length: usize, by: isize| length.saturating_add_signed(by);
         let (mut call, mut work) = (right.clone(), work(right));
         match slice {
             0 => call.input.resize(longer(call.input.len(), 8 * by), 0),
@@ -258,10 +223,9 @@ impl Made {
 
     /// Rows (0 -1 5), (1 0 6), (0 0 LAST), with Q and without.
     fn turning(&mut self, last: f64, tolerance: f64, budget: u64) {
-        let entries = [0.0, 1.0, 0.0, -1.0, 0.0, 0.0, 5.0, 6.0, last];
         let case = Case {
             order: 3,
-            entries: entries.to_vec(),
+            entries: vec![0.0, 1.0, 0.0, -1.0, 0.0, 0.0, 5.0, 6.0, last],
             tolerance,
             budget,
         };
@@ -270,10 +234,10 @@ impl Made {
         }
     }
 
-    /// The plain entry up to its budget, on cycles; those of order 3 to 5 end.
+    /// The plain entry, up to its budget too.
     fn cycles(&mut self) {
         self.list.group("cycles");
-        for order in 3..8 {
+        for order in CYCLES.0..=CYCLES.1 {
             let entry = |place: usize| f64::from(place % order == (place / order + 1) % order);
             let cycle: Vec<f64> = (0..order * order).map(entry).collect();
             self.plain(order, &cycle);
@@ -281,14 +245,10 @@ impl Made {
     }
 }
 
+/// The length of the workspace in numbers. An order that is refused need not have one.
 fn work(call: &Call) -> usize {
     match call.entry {
-        // An order that is refused may have no such length.
         Entry::Decompose | Entry::Plain if call.order <= 65 => 2 * call.order,
         _ => 0,
     }
-}
-
-fn longer(length: usize, by: isize) -> usize {
-    length.saturating_add_signed(by)
 }

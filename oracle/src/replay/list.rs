@@ -4,6 +4,7 @@
 use crate::call::{Call, Entry};
 use crate::door::one_nan;
 use crate::judge::{After, Answer, Judge, Refusal};
+use std::collections::BTreeSet;
 
 /// The most numbers that a call is given, or lent in one slice: order 65 has its lengths too.
 pub const ROOM: usize = 65 * 65;
@@ -21,8 +22,8 @@ pub enum Slot {
     Second,
 }
 
-/// The entries as the program counts them, from 1 on.
-const NAMES: [&str; 5] = [
+/// The entries; the program counts them from 1 on.
+pub const NAMES: [&str; 5] = [
     "decomposition with Q",
     "decomposition without Q",
     "real reader",
@@ -30,14 +31,18 @@ const NAMES: [&str; 5] = [
     "plain entry",
 ];
 
+/// The number of an answer is below this.
+const NUMBERS: usize = 12;
+
 #[derive(Default)]
 pub struct List {
     pub bytes: Vec<u8>,
     slots: [Vec<u64>; 5],
     /// The groups with the number of their cases.
     groups: Vec<(String, usize)>,
-    /// How often each entry gave each number.
-    met: [[usize; 12]; 5],
+    /// How often each entry gave each number, 0 for accepted; and the places that each number told.
+    met: [[usize; NUMBERS]; NAMES.len()],
+    places: [BTreeSet<(usize, usize)>; NUMBERS],
 }
 
 impl List {
@@ -67,11 +72,11 @@ impl List {
         let (answer, after) = judge.rule_library(call, work);
         let left = self.left(call.entry, after);
         let entry = match (call.entry, call.wanted) {
-            (Entry::Decompose, 0) => 2,
-            (Entry::Decompose, _) => 1,
-            (Entry::Real, _) => 3,
-            (Entry::Complex, _) => 4,
-            (Entry::Plain, _) => 5,
+            (Entry::Decompose, 0) => 1,
+            (Entry::Decompose, _) => 0,
+            (Entry::Real, _) => 2,
+            (Entry::Complex, _) => 3,
+            (Entry::Plain, _) => 4,
         };
         let [x, y] = call.out.map(|bytes| bytes / 8);
         let lengths = match call.entry {
@@ -85,7 +90,7 @@ impl List {
             }
         };
         let asked = [
-            entry,
+            entry as u64 + 1,
             slot as u64,
             (call.input.len() / 8) as u64,
             call.order as u64,
@@ -101,7 +106,10 @@ impl List {
         .concat();
         self.head(b'c', 0, words.len());
         self.words(&words);
-        self.met[entry as usize - 1][usize::from(answer.number())] += 1;
+        self.met[entry][usize::from(answer.number())] += 1;
+        if let Answer::Refused(Refusal { number, row, col }) = answer {
+            self.places[usize::from(number)].insert((row, col));
+        }
         self.groups.last_mut().expect("a group was begun").1 += 1;
         answer
     }
@@ -153,9 +161,14 @@ impl List {
         self.groups.iter().map(|(_, cases)| cases).sum()
     }
 
-    /// How often an entry gave a number; entries count from 1, 0 is accepted.
+    /// How often an entry gave a number; the place of the entry is that of its name.
     pub fn met(&self, entry: usize, number: u8) -> usize {
-        self.met[entry - 1][usize::from(number)]
+        self.met[entry][usize::from(number)]
+    }
+
+    /// How many places a number told.
+    pub fn places(&self, number: u8) -> usize {
+        self.places[usize::from(number)].len()
     }
 
     /// All that the program prints.
@@ -174,5 +187,57 @@ impl List {
             page += "\n";
         }
         page + &format!("{} cases, 0 differ\n", self.cases())
+    }
+}
+
+#[cfg(test)]
+mod tests {
+    use super::*;
+
+    /// The words of a list.
+    fn words(list: &List) -> Vec<u64> {
+        let eights = list.bytes.chunks(8);
+        eights
+            .map(|eight| u64::from_le_bytes(eight.try_into().unwrap()))
+            .collect()
+    }
+
+    /// J, rows (0 -1), (1 0), and the complex reader: what a slot holds is not written again.
+    #[test]
+    fn cases_are_written() {
+        let j = [0.0, 1.0, -1.0, 0.0];
+        let (one, minus) = (1f64.to_bits(), (-1f64).to_bits());
+        let mut list = List::default();
+        list.group("J");
+        let call = Call::new(Entry::Complex, 2, &j);
+        let answer = list.case(&mut Judge::default(), &call, Slot::T, 0);
+        assert_eq!(answer, Answer::Accepted(0));
+        let head =
+            |kind: u8, small: u64, words: u64| u64::from(kind) + (small << 8) + (words << 16);
+        let case = [4, 1, 4, 2, call.tolerance, 1, 2, 2, 0, 0, 0, 0, 2, 7, 0];
+        let mut right = vec![head(b'g', 1, 1), u64::from_le_bytes(*b"J       ")];
+        right.extend([head(b'n', 1, 4), 0, one, minus, 0]);
+        right.extend([head(b'n', 4, 2), one, minus, head(b'c', 0, 15)]);
+        right.extend(case);
+        assert_eq!(words(&list), right);
+        list.case(&mut Judge::default(), &call, Slot::T, 0);
+        right.push(head(b'c', 0, 15));
+        right.extend(case);
+        assert_eq!(words(&list), right);
+        assert!(list.page().starts_with("J: 2 cases, 0 differ\n"));
+        assert!(list
+            .page()
+            .ends_with("plain entry: 0 accepted\n2 cases, 0 differ\n"));
+    }
+
+    #[test]
+    fn there_is_room_for_numbers_alone() {
+        let right = Call::new(Entry::Decompose, 65, &[0.0; ROOM]);
+        let (mut long, mut odd) = (right.clone(), right.clone());
+        assert!(List::takes(&right, 130));
+        long.out[0] += 8;
+        odd.input.pop();
+        assert!(!List::takes(&long, 130) && !List::takes(&odd, 130));
+        assert!(!List::takes(&right, ROOM + 1));
     }
 }
