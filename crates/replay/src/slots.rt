@@ -2,6 +2,7 @@
 ghost use mathlib.Core.Path.{_≡_};
 ghost use lib.ListN.{length};
 ghost use Prim.Native.Nat.{_+_, _≤_, _<_};
+use crate::unpack::word;
 
 pub(crate) fn empty() -> [f64; 21125]
     ensures { λ r. ⌜ 21125 ≡ length r ⌝ }
@@ -17,10 +18,20 @@ pub(crate) fn start(k: usize) -> usize
     k * 4225
 }
 
+// Puts the numbers of these patterns into v, as many as it has places.
+fn numbers(b: &[u8], v: &mut [f64]) {
+    for i in 0..v.len() {
+        v[i] = scalar::of_bits(word(b, i));
+    }
+}
+
 // Puts the numbers of these patterns into slot k: false where there is no room for them.
 pub(crate) fn put(b: &[u8], k: usize, slots: &mut [f64]) -> bool {
     let count = b.len() / 8;
-    if 5 <= k || 4225 < count {
+    if 5 <= k {
+        return false;
+    }
+    if 4225 < count {
         return false;
     }
     let from = start(k);
@@ -28,6 +39,6 @@ pub(crate) fn put(b: &[u8], k: usize, slots: &mut [f64]) -> bool {
     if slots.len() < to {
         return false;
     }
-    words::decode(b, &mut slots[from..to]);
+    numbers(b, &mut slots[from..to]);
     true
 }

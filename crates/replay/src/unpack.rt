@@ -23,13 +23,12 @@ fn below(w: u64, b: u64) -> u64
     w % 72057594037927936 * 256 + b
 }
 
-// The word that ends before byte `end`; what lies outside of b counts as 0.
-fn word(b: &[u8], end: usize) -> u64
-    requires { ⌜ 7 < end ⌝ }
-{
+// Word k of b; what lies outside of b counts as 0.
+pub(crate) fn word(b: &[u8], k: usize) -> u64 {
+    let from = k % 8192 * 8;
     let mut w = 0;
-    for i in 1..9 {
-        w = below(w, byte(b, end - i));
+    for i in 0..8 {
+        w = below(w, byte(b, from + 7 - i));
     }
     w
 }
@@ -38,7 +37,7 @@ fn word(b: &[u8], end: usize) -> u64
 pub(crate) fn case_words(b: &[u8]) -> [u64; 15] {
     let mut w = [0; 15];
     for k in 0..15 {
-        w[k] = word(b, 8 * k + 8);
+        w[k] = word(b, k);
     }
     w
 }
