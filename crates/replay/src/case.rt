@@ -1,7 +1,6 @@
 // A case: a call, and what it must come to.
 ghost use mathlib.Core.Path.{_≡_};
 ghost use lib.ListN.{length};
-use crate::call;
 use crate::expected;
 use crate::met;
 use crate::slots::start;
@@ -58,7 +57,7 @@ fn make(
     slots: &[f64],
     counts: &mut [u64],
 ) -> bool {
-    let t = call::run(c.entry, m, c.order, c.tolerance, c.budget, x, y, z);
+    let t = calls::run(c.entry, m, c.order, c.tolerance, c.budget, x, y, z);
     met::count(counts, c.entry, t.number);
     expected::same(c, t, x, y, z, slots)
 }

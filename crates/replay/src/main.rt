@@ -19,7 +19,6 @@
 //        the answer: number of the refusal, row and column; or 0, the passes and 0
 //        what is left in each of the three: 0 what they held before, which is 0123456789abcdef throughout; 1 NaN, 2 +0,
 //          3 and on the numbers of slot 0 and on
-mod call;
 mod case;
 mod expected;
 mod list;
