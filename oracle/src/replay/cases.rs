@@ -9,11 +9,12 @@ use crate::numbers::between;
 use crate::options::SEED;
 use crate::random::Random;
 
-/// The orders of a family's matrices: one at each tolerance, and so many at the usual one besides.
-const SMALL: (usize, usize) = (1, 12);
-const USUAL: usize = 7;
+/// The orders of a family's matrices at each tolerance, and at the usual one besides: orders 1 and 2 take no
+/// notice of it.
+const SMALL: (usize, usize) = (3, 12);
+const USUAL: [usize; 8] = [1, 2, 2, 2, 3, 4, 8, 9];
 
-/// The order of each family's large matrix, at the usual tolerance.
+/// The order of each family's large matrix, at the usual tolerance too.
 const LARGE: [usize; FAMILIES.len()] = [
     64, 63, 48, 20, 33, 32, 31, 17, 47, 24, 40, 28, 25, 23, 16, 15, 14, 13,
 ];
@@ -23,6 +24,13 @@ const SHAPES: usize = 160;
 
 /// Cycles, for the plain entry: on that of order 6 the passes stand still.
 const CYCLES: (usize, usize) = (3, 12);
+
+/// Matrices of the family `huge` whose runs take thousands of passes, by their streams and orders: 4523, and
+/// 13353 and 17385, which are more than the plain entry's budget. They were found by a search.
+const LONG: [(u64, usize); 3] = [(2_629_049, 5), (2_845_141, 6), (2_685_245, 4)];
+
+/// Enough for these.
+const LONG_BUDGET: u64 = 20_000;
 
 /// A matrix on which the plain entry does not end within so many passes is left out: most of these take all
 /// of its 10,000.
@@ -48,7 +56,7 @@ pub fn all() -> Made {
     made.shapes();
     made.faults();
     made.edges();
-    made.cycles();
+    made.long();
     made
 }
 
@@ -56,19 +64,24 @@ impl Made {
     fn family(&mut self, number: usize) {
         let family = &FAMILIES[number];
         self.list.group(family.name);
-        let small = TOLERANCES.into_iter().chain([f64::EPSILON; USUAL]);
-        let large = (LARGE[number], LARGE[number]);
-        let all = small.map(|tolerance| (SMALL, tolerance));
-        for ((first, last), tolerance) in all.chain([(large, f64::EPSILON)]) {
-            let order = between(&mut self.random, first, last);
-            let entries = (family.entries)(&mut self.random, order);
-            let accepted = self.matrix(&Case {
+        let small = TOLERANCES.map(|tolerance| {
+            let order = between(&mut self.random, SMALL.0, SMALL.1);
+            (order, tolerance)
+        });
+        let usual = USUAL.into_iter().chain([LARGE[number]]);
+        let usual = usual.map(|order| (order, f64::EPSILON));
+        for (order, tolerance) in small.into_iter().chain(usual) {
+            let case = Case {
                 order,
-                entries,
+                entries: (family.entries)(&mut self.random, order),
                 tolerance,
                 budget: 30 * order.max(4) as u64,
-            });
+            };
+            let accepted = self.matrix(&case);
             self.covered.families[number] += usize::from(accepted);
+            if order <= 2 || self.judge.plain_ends(order, &case.entries, PATIENCE) {
+                self.plain(order, &case.entries);
+            }
         }
     }
 
@@ -80,6 +93,7 @@ impl Made {
             for wanted in [true, false] {
                 self.decompose(&witness, witness.budget, wanted);
             }
+            self.plain(witness.order, &witness.entries);
             for tolerance in TOLERANCES {
                 self.matrix(&Case {
                     tolerance,
@@ -91,8 +105,8 @@ impl Made {
     }
 
     /// A matrix at its tolerance: the decomposition with Q and without, at its budget, or, where the run
-    /// ends there, at its count, one above, and further up; both readers on the T of the run; the plain
-    /// entry. Whether it is accepted.
+    /// ends there, at its count, one above, and further up; both readers on the T of the run. Whether it is
+    /// accepted.
     fn matrix(&mut self, case: &Case) -> bool {
         let Case {
             order,
@@ -117,9 +131,6 @@ impl Made {
         if let Some(t) = self.judge.t(*order, entries, *tolerance, *budget) {
             self.read(*order, &t, Slot::T);
         }
-        if *order <= 2 || self.judge.plain_ends(*order, entries, PATIENCE) {
-            self.plain(*order, entries);
-        }
         for (at, count) in TOLERANCES.iter().zip(&mut self.covered.tolerances) {
             *count += usize::from(accepted && at.to_bits() == tolerance.to_bits());
         }
@@ -143,8 +154,8 @@ impl Made {
         }
     }
 
-    fn plain(&mut self, order: usize, entries: &[f64]) {
-        self.make(&Call::new(Entry::Plain, order, entries), Slot::Matrix);
+    fn plain(&mut self, order: usize, entries: &[f64]) -> Answer {
+        self.make(&Call::new(Entry::Plain, order, entries), Slot::Matrix)
     }
 
     /// A case whose workspace has its length.
@@ -156,7 +167,7 @@ impl Made {
     fn shapes(&mut self) {
         self.list.group("T's made for the readers");
         for _ in 0..SHAPES {
-            let order = between(&mut self.random, SMALL.0, SMALL.1);
+            let order = between(&mut self.random, 1, SMALL.1);
             let mut t = shapes::draw(&mut self.random, order);
             if one_in(&mut self.random, 4) {
                 shapes::damage(&mut self.random, order, &mut t);
@@ -234,9 +245,23 @@ impl Made {
         }
     }
 
-    /// The plain entry, up to its budget too.
-    fn cycles(&mut self) {
-        self.list.group("cycles");
+    /// Runs of many passes, and the plain entry up to its budget.
+    fn long(&mut self) {
+        self.list.group("long runs");
+        let family = FAMILIES.iter().find(|family| family.name == "huge");
+        for (stream, order) in LONG {
+            let mut random = Random::stream(SEED, stream);
+            let entries = (family.expect("a family").entries)(&mut random, order);
+            let case = Case {
+                order,
+                entries,
+                tolerance: f64::EPSILON,
+                budget: LONG_BUDGET,
+            };
+            let ends = self.matrix(&case);
+            let plain = self.plain(order, &case.entries);
+            self.covered.long[usize::from(plain.number() == 7)] += usize::from(ends);
+        }
         for order in CYCLES.0..=CYCLES.1 {
             let entry = |place: usize| f64::from(place % order == (place / order + 1) % order);
             let cycle: Vec<f64> = (0..order * order).map(entry).collect();

@@ -26,6 +26,9 @@ pub struct Covered {
     pub tolerances: [usize; TOLERANCES.len()],
     pub families: [usize; FAMILIES.len()],
     pub witnesses: usize,
+    /// Runs of thousands of passes that are accepted; first those that the plain entry ends, then those that
+    /// take more than its budget.
+    pub long: [usize; 2],
     /// Calls in which one slice alone has a wrong length, by the slice.
     pub lengths: [usize; 4],
 }
@@ -52,7 +55,10 @@ impl Covered {
         println!("wrong lengths, by slice: {:?}", self.lengths);
         let places = PLACES.map(|(number, _)| format!("{number} at {}", list.places(number)));
         println!("places told: {}", places.join(", "));
-        println!("witnesses: {}", self.witnesses);
+        println!(
+            "witnesses: {}; long runs within the plain entry's budget and above: {:?}",
+            self.witnesses, self.long
+        );
     }
 
     /// What the list is to have and has not.
@@ -77,6 +83,7 @@ impl Covered {
         none("tolerance", &self.tolerances);
         none("family", &self.families);
         none("a wrong length of slice", &self.lengths);
+        none("long runs", &self.long);
         none("witnesses", &[self.witnesses]);
         missing
     }
