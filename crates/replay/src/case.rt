@@ -5,6 +5,9 @@ use crate::expected;
 use crate::met;
 use crate::slots::start;
 
+// What lent memory holds before a call. No answer has it: the oracle sees to that.
+pub(crate) const LENT: u64 = 0x0123_4567_89ab_cdef;
+
 pub(crate) struct Case {
     pub(crate) entry: u64,
     // what it is given: so many numbers of this slot
@@ -92,10 +95,11 @@ fn lend(
 fn room() -> [f64; 4225]
     ensures { λ r. ⌜ 4225 ≡ length r ⌝ }
 {
-    let lent = scalar::of_bits(0x0123_4567_89ab_cdef);
+    let lent = scalar::of_bits(LENT);
     [lent; 4225]
 }
 
+// The same, on rooms full of what lent memory holds.
 fn given(c: Case, m: &[f64], slots: &[f64], counts: &mut [u64]) -> bool {
     let mut x = room();
     let mut y = room();

@@ -1,5 +1,6 @@
 // What is expected of a case, against what came. What differs is said.
 use crate::case::Case;
+use crate::case::LENT;
 use crate::say::whole;
 use crate::say::word;
 use crate::slots::start;
@@ -41,6 +42,7 @@ fn unlike(v: &[f64], w: &[f64]) -> usize {
     v.len()
 }
 
+// The same for what slot k holds; a place that v has not where there is no such slot.
 fn unlike_slot(v: &[f64], k: usize, slots: &[f64]) -> usize {
     if 5 <= k {
         return 9999;
@@ -55,7 +57,7 @@ fn unlike_slot(v: &[f64], k: usize, slots: &[f64]) -> usize {
 // The first place of v that does not hold what is expected to be left there; the length where there is none.
 fn place(v: &[f64], left: usize, slots: &[f64]) -> usize {
     match left {
-        0 => other_than(v, 0x0123_4567_89ab_cdef),
+        0 => other_than(v, LENT),
         1 => other_than(v, 0x7ff8_0000_0000_0000),
         2 => other_than(v, 0),
         _ => unlike_slot(v, left - 3, slots),

@@ -28,6 +28,7 @@ struct Sums {
     group_differ: u64,
 }
 
+// The head of the next record.
 fn next() -> Head {
     let mut b = [0u8; 8];
     if io::read_full(STDIN_FILENO, &mut b) < 8 {
@@ -64,6 +65,7 @@ fn group(name: &[u8], s: Sums) -> Sums {
     }
 }
 
+// One case more, which went as expected or not.
 fn went(s: Sums, same: bool) -> Sums {
     let mut r = s;
     r.cases = more(s.cases);
@@ -79,6 +81,7 @@ fn went(s: Sums, same: bool) -> Sums {
     r
 }
 
+// It counts as a case that differs.
 fn not_understood(s: Sums) -> Sums {
     word(b"a record is not understood, ");
     went(s, false)
@@ -139,6 +142,7 @@ fn records(room: &mut [u8], slots: &mut [f64], counts: &mut [u64]) -> Sums {
     s
 }
 
+// What each entry answered, a line each.
 fn lines(counts: &[u64]) {
     if counts.len() < 96 {
         return;
