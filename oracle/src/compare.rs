@@ -8,7 +8,7 @@ mod faults;
 #[cfg(test)]
 mod model_side;
 mod reached;
-mod shapes;
+pub mod shapes;
 mod side;
 mod trial;
 mod witnesses;
@@ -19,14 +19,14 @@ use crate::judge::Judge;
 use crate::options;
 use crate::random::Random;
 use check::check;
-use faults::{Bases, Plan};
-use reached::Reached;
 use side::{Side, DOOR};
 use std::ops::RangeInclusive;
 use std::time::Instant;
 
-pub use case::Case;
-pub use families::FAMILIES;
+pub use case::{Case, TOLERANCES};
+pub use families::{one_in, FAMILIES};
+pub use faults::{Bases, Plan};
+pub use reached::{possible, Reached};
 pub use shapes::not_finite;
 pub use witnesses::kept_witnesses;
 

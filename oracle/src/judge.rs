@@ -3,6 +3,7 @@
 //! counts, eigenvalues. What the crate does not know is said here: numbers, places, and what is left in
 //! lent memory.
 
+mod library;
 mod readers;
 mod runs;
 
@@ -182,6 +183,19 @@ impl Judge {
     pub fn plain_ends(&mut self, order: usize, entries: &[f64], budget: u64) -> bool {
         let runs = self.remembered.on(order, entries, f64::EPSILON);
         runs.at(budget).is_some()
+    }
+
+    /// The pass count of a run that ends at this budget, whatever is wrong with its T.
+    pub fn passes(
+        &mut self,
+        order: usize,
+        entries: &[f64],
+        tolerance: f64,
+        budget: u64,
+    ) -> Option<u64> {
+        let runs = self.remembered.on(order, entries, tolerance + 0.0);
+        runs.at(budget)?;
+        Some(runs.passes(budget, 0))
     }
 
     /// T of a run that ended, whatever is wrong with it.

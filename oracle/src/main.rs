@@ -19,6 +19,7 @@ mod options;
 mod outcomes;
 mod random;
 mod records;
+mod replay;
 mod root;
 mod scalar;
 mod speed;
@@ -59,6 +60,7 @@ const COMMANDS: &[(&str, &str, Run)] = &[
         "[--write] | --damaged COUNT [--seed HEX]",
         records::run,
     ),
+    ("replay", "[--write]", replay::run),
     ("root", "[--count MILLIONS] [--seed HEX]", root::run),
     ("scalar", "[--write]", scalar::run),
     ("speed", "[--repeat TIMES] [--seed HEX]", speed::run),

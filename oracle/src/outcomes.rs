@@ -6,7 +6,7 @@
 
 use crate::call::{Call, Entry};
 use crate::door::one_nan;
-use crate::judge::{After, Answer, Judge, Refusal, Ruling};
+use crate::judge::{After, Answer, Judge, Refusal};
 use std::fs;
 
 /// Seen from this package's folder, where cargo runs the program.
@@ -116,20 +116,11 @@ fn come_to(words: &[u64], judge: &mut Judge) -> Option<(Vec<u64>, String)> {
     let mut call = Call::new(entry, *order as usize, &numbers);
     (call.tolerance, call.budget, call.wanted) = (*tolerance, *budget, wanted);
     call.out = [8 * lengths[0], 8 * lengths[1]];
-    let Ruling {
-        answer,
-        after: [first, second],
-    } = judge.rule(&call, 0);
-    // The judge knows nothing of workspaces: a run leaves +0.
-    let work = match answer.number() {
-        1..=6 => After::Untouched,
-        _ => After::Numbers(vec![0.0; 2 * call.order]),
+    let work = match entry {
+        Entry::Plain => lengths[1],
+        Entry::Decompose | Entry::Real | Entry::Complex => lengths[2],
     };
-    let lent = match entry {
-        Entry::Decompose => [first, second, work],
-        Entry::Real | Entry::Complex => [first, second, After::Untouched],
-        Entry::Plain => [first, work, After::Untouched],
-    };
+    let (answer, lent) = judge.rule_library(&call, work);
     let (mut words, said) = match answer {
         Answer::Accepted(passes) if entry == Entry::Decompose => {
             (vec![0, passes, 0], format!(" passes {passes},"))

@@ -200,3 +200,34 @@ fn a_wrong_count_is_not_taken() {
     }
     assert!(counted > 1000, "{counted}");
 }
+
+/// The library is lent a workspace, whose length is checked with the others; a run leaves +0 in it.
+#[test]
+fn workspaces() {
+    let told = |call: &Call, work| {
+        let (answer, after) = Judge::default().rule_library(call, work);
+        let held = after.map(|after| match after {
+            After::Untouched => None,
+            After::Nan => Some(f64::NAN),
+            After::Numbers(numbers) => numbers.last().copied(),
+        });
+        (answer, held)
+    };
+    let mut call = Call::new(Entry::Decompose, 2, &J);
+    let (t, q, work) = (Some(0.0), Some(1.0), Some(0.0));
+    assert_eq!(told(&call, 4), (Answer::Accepted(0), [t, q, work]));
+    assert_eq!(told(&call, 3), (refused(3, 0, 0), [None; 3]));
+    call.budget = 0;
+    assert_eq!(told(&call, 4), (refused(5, 0, 0), [None; 3]));
+    assert_eq!(told(&call, 5), (refused(3, 0, 0), [None; 3]));
+    let call = Call::new(Entry::Plain, 2, &J);
+    assert_eq!(told(&call, 4), (refused(10, 0, 0), [None, work, None]));
+    let call = Call::new(Entry::Plain, 65, &[0.0; 65 * 65]);
+    assert_eq!(told(&call, 0), (refused(2, 0, 0), [None; 3]));
+    // The readers have none.
+    let call = Call::new(Entry::Real, 1, &[5.0]);
+    assert_eq!(
+        told(&call, 0),
+        (Answer::Accepted(0), [Some(5.0), None, None])
+    );
+}

@@ -1,0 +1,18 @@
+// The parts of a line.
+use libc::STDOUT_FILENO;
+
+pub(crate) fn word(w: &[u8]) {
+    io::write_all(STDOUT_FILENO, w);
+}
+
+pub(crate) fn whole(n: u64) {
+    io::print_decimal(STDOUT_FILENO, n);
+}
+
+// How many cases there were, and how many of them differ.
+pub(crate) fn sum(cases: u64, differ: u64) {
+    whole(cases);
+    word(b" cases, ");
+    whole(differ);
+    word(b" differ\n");
+}

@@ -1,0 +1,243 @@
+//! The list as the program `replay` reads it, and what the program prints when it finds all as it stands
+//! there. `crates/replay/src/main.rt` says how a list is written.
+
+use crate::call::{Call, Entry};
+use crate::door::one_nan;
+use crate::judge::{After, Answer, Judge, Refusal};
+use std::collections::BTreeSet;
+
+/// The most numbers that a call is given, or lent in one slice: order 65 has its lengths too.
+pub const ROOM: usize = 65 * 65;
+
+/// What lent memory holds before a call. No answer may hold it.
+const LENT: u64 = 0x0123_4567_89ab_cdef;
+
+/// Where the program keeps numbers: for a matrix, T, Q, and the two lists of eigenvalues.
+#[derive(Clone, Copy)]
+pub enum Slot {
+    Matrix,
+    T,
+    Q,
+    First,
+    Second,
+}
+
+/// The entries; the program counts them from 1 on.
+pub const NAMES: [&str; 5] = [
+    "decomposition with Q",
+    "decomposition without Q",
+    "real reader",
+    "complex reader",
+    "plain entry",
+];
+
+/// The number of an answer is below this.
+const NUMBERS: usize = 12;
+
+#[derive(Default)]
+pub struct List {
+    pub bytes: Vec<u8>,
+    slots: [Vec<u64>; 5],
+    /// The groups with the number of their cases.
+    groups: Vec<(String, usize)>,
+    /// How often each entry gave each number, 0 for accepted; and the places that each number told.
+    met: [[usize; NUMBERS]; NAMES.len()],
+    places: [BTreeSet<(usize, usize)>; NUMBERS],
+}
+
+impl List {
+    /// The cases that follow belong to this group.
+    pub fn group(&mut self, name: &str) {
+        let mut text = name.as_bytes().to_vec();
+        text.resize(name.len().next_multiple_of(8), b' ');
+        self.head(b'g', name.len(), text.len() / 8);
+        self.bytes.extend(text);
+        self.groups.push((name.to_string(), 0));
+    }
+
+    /// Whether the program has room for a call; `work` is the length of its workspace.
+    pub fn takes(call: &Call, work: usize) -> bool {
+        let bytes = [call.input.len(), call.out[0], call.out[1], 8 * work];
+        bytes
+            .iter()
+            .all(|bytes| bytes % 8 == 0 && *bytes <= 8 * ROOM)
+    }
+
+    /// A case: a call on what this slot is to hold, and what it must come to.
+    pub fn case(&mut self, judge: &mut Judge, call: &Call, slot: Slot, work: usize) -> Answer {
+        assert!(List::takes(call, work), "{}", call.told());
+        let input = call.input.chunks(8);
+        let eight = |bytes: &[u8]| u64::from_le_bytes(bytes.try_into().expect("eight bytes"));
+        self.put(slot, input.map(eight).collect());
+        let (answer, after) = judge.rule_library(call, work);
+        let left = self.left(call.entry, after);
+        let entry = match (call.entry, call.wanted) {
+            (Entry::Decompose, 0) => 1,
+            (Entry::Decompose, _) => 0,
+            (Entry::Real, _) => 2,
+            (Entry::Complex, _) => 3,
+            (Entry::Plain, _) => 4,
+        };
+        let [x, y] = call.out.map(|bytes| bytes / 8);
+        let lengths = match call.entry {
+            Entry::Plain => [x, work, 0],
+            Entry::Decompose | Entry::Real | Entry::Complex => [x, y, work],
+        };
+        let told = match answer {
+            Answer::Accepted(passes) => [0, passes, 0],
+            Answer::Refused(Refusal { number, row, col }) => {
+                [u64::from(number), row as u64, col as u64]
+            }
+        };
+        let asked = [
+            entry as u64 + 1,
+            slot as u64,
+            (call.input.len() / 8) as u64,
+            call.order as u64,
+            call.tolerance,
+            call.budget,
+        ];
+        let words = [
+            &asked[..],
+            &lengths.map(|length| length as u64),
+            &told,
+            &left,
+        ]
+        .concat();
+        self.head(b'c', 0, words.len());
+        self.words(&words);
+        self.met[entry][usize::from(answer.number())] += 1;
+        if let Answer::Refused(Refusal { number, row, col }) = answer {
+            self.places[usize::from(number)].insert((row, col));
+        }
+        self.groups.last_mut().expect("a group was begun").1 += 1;
+        answer
+    }
+
+    /// What is left in the three slices: 0 all as it was, 1 NaN, 2 +0, and from 3 on what a slot holds.
+    fn left(&mut self, entry: Entry, after: [After; 3]) -> [u64; 3] {
+        let slots = match entry {
+            Entry::Decompose => [Slot::T, Slot::Q],
+            Entry::Real | Entry::Complex | Entry::Plain => [Slot::First, Slot::Second],
+        };
+        let mut slots = slots.into_iter();
+        after.map(|after| match (after, slots.next()) {
+            (After::Untouched, _) => 0,
+            (After::Nan, _) => 1,
+            (After::Numbers(numbers), _) if numbers.iter().all(|x| x.to_bits() == 0) => 2,
+            (After::Numbers(numbers), slot) => {
+                let slot = slot.expect("a workspace holds +0");
+                let patterns: Vec<u64> = numbers.into_iter().map(one_nan).collect();
+                assert!(!patterns.contains(&LENT), "an answer has {LENT:016x}");
+                self.put(slot, patterns);
+                3 + slot as u64
+            }
+        })
+    }
+
+    /// Sees to it that a slot begins with these patterns.
+    fn put(&mut self, slot: Slot, patterns: Vec<u64>) {
+        if !self.slots[slot as usize].starts_with(&patterns) {
+            self.head(b'n', slot as usize, patterns.len());
+            self.words(&patterns);
+            self.slots[slot as usize] = patterns;
+        }
+    }
+
+    /// The head of a record: its kind, a small number, and how many words follow.
+    fn head(&mut self, kind: u8, small: usize, words: usize) {
+        let small = u8::try_from(small).expect("a small number");
+        let words = u16::try_from(words).expect("not many words");
+        let [low, high] = words.to_le_bytes();
+        self.bytes.extend([kind, small, low, high, 0, 0, 0, 0]);
+    }
+
+    fn words(&mut self, words: &[u64]) {
+        self.bytes
+            .extend(words.iter().flat_map(|word| word.to_le_bytes()));
+    }
+
+    pub fn cases(&self) -> usize {
+        self.groups.iter().map(|(_, cases)| cases).sum()
+    }
+
+    /// How often an entry gave a number; the place of the entry is that of its name.
+    pub fn met(&self, entry: usize, number: u8) -> usize {
+        self.met[entry][usize::from(number)]
+    }
+
+    /// How many places a number told.
+    pub fn places(&self, number: u8) -> usize {
+        self.places[usize::from(number)].len()
+    }
+
+    /// All that the program prints.
+    pub fn page(&self) -> String {
+        let mut page = String::new();
+        for (name, cases) in &self.groups {
+            page += &format!("{name}: {cases} cases, 0 differ\n");
+        }
+        for (name, met) in NAMES.iter().zip(&self.met) {
+            page += &format!("{name}: {} accepted", met[0]);
+            for (number, count) in met.iter().enumerate().skip(1) {
+                if *count > 0 {
+                    page += &format!(", {count} refused {number}");
+                }
+            }
+            page += "\n";
+        }
+        page + &format!("{} cases, 0 differ\n", self.cases())
+    }
+}
+
+#[cfg(test)]
+mod tests {
+    use super::*;
+
+    /// The words of a list.
+    fn words(list: &List) -> Vec<u64> {
+        let eights = list.bytes.chunks(8);
+        eights
+            .map(|eight| u64::from_le_bytes(eight.try_into().unwrap()))
+            .collect()
+    }
+
+    /// J, rows (0 -1), (1 0), and the complex reader: what a slot holds is not written again.
+    #[test]
+    fn cases_are_written() {
+        let j = [0.0, 1.0, -1.0, 0.0];
+        let (one, minus) = (1f64.to_bits(), (-1f64).to_bits());
+        let mut list = List::default();
+        list.group("J");
+        let call = Call::new(Entry::Complex, 2, &j);
+        let answer = list.case(&mut Judge::default(), &call, Slot::T, 0);
+        assert_eq!(answer, Answer::Accepted(0));
+        let head =
+            |kind: u8, small: u64, words: u64| u64::from(kind) + (small << 8) + (words << 16);
+        let case = [4, 1, 4, 2, call.tolerance, 1, 2, 2, 0, 0, 0, 0, 2, 7, 0];
+        let mut right = vec![head(b'g', 1, 1), u64::from_le_bytes(*b"J       ")];
+        right.extend([head(b'n', 1, 4), 0, one, minus, 0]);
+        right.extend([head(b'n', 4, 2), one, minus, head(b'c', 0, 15)]);
+        right.extend(case);
+        assert_eq!(words(&list), right);
+        list.case(&mut Judge::default(), &call, Slot::T, 0);
+        right.push(head(b'c', 0, 15));
+        right.extend(case);
+        assert_eq!(words(&list), right);
+        assert!(list.page().starts_with("J: 2 cases, 0 differ\n"));
+        assert!(list
+            .page()
+            .ends_with("plain entry: 0 accepted\n2 cases, 0 differ\n"));
+    }
+
+    #[test]
+    fn there_is_room_for_numbers_alone() {
+        let right = Call::new(Entry::Decompose, 65, &[0.0; ROOM]);
+        let (mut long, mut odd) = (right.clone(), right.clone());
+        assert!(List::takes(&right, 130));
+        long.out[0] += 8;
+        odd.input.pop();
+        assert!(!List::takes(&long, 130) && !List::takes(&odd, 130));
+        assert!(!List::takes(&right, ROOM + 1));
+    }
+}
