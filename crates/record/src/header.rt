@@ -75,9 +75,10 @@ pub(crate) fn check(h: Header, bytes: u64) -> Checked
     requires { ⌜ h .length < 2 ^ 32 ⌝ }
     ensures { λ r. ⌜ r ≡ headerChecks h bytes ⌝ }
 {
+    let kind = h.kind;
     let order = h.order;
     let length = h.length;
-    if h.kind != 1 {
+    if kind != 1 {
         return Checked::Refused(Refusal::UnknownKind);
     }
     if order == 0 {

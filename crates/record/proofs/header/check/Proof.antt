@@ -12,19 +12,19 @@ use Rattle.record.proofs.header.check.Tie as tie
 
 -- each check that has passed
 
-kind-right : (c : tie.Else1) → eqb (c .before .before .args .h .kind) 1 ≡ true
-kind-right c = eq-eqb (c .before .before .args .h .kind) 1 (omega arith)
+kind-right : (c : tie.Else1) → eqb (c .before .args .h .kind) 1 ≡ true
+kind-right c = eq-eqb (c .before .args .h .kind) 1 (omega arith)
 
-order-some : (c : tie.Else2) → eqb (c .before .before .before .args .h .order) 0 ≡ false
+order-some : (c : tie.Else2) → eqb (c .before .before .args .h .order) 0 ≡ false
 order-some c = ne-eqb _ _ (c .if2 .left)
 
-order-small : (c : tie.Else3) → ltb 32 (c .before .before .before .before .args .h .order) ≡ false
-order-small c = le-ltb 32 (c .before .before .before .before .args .h .order) (omega arith)
+order-small : (c : tie.Else3) → ltb 32 (c .before .before .before .args .h .order) ≡ false
+order-small c = le-ltb 32 (c .before .before .before .args .h .order) (omega arith)
 
-length-right : (c : tie.Else4) → let h = c .before .before .before .before .before .before .args .h in eqb (h .length) (16 + 8 * (h .order * h .order)) ≡ true
-length-right c = let h = c .before .before .before .before .before .before .args .h in eq-eqb (h .length) (16 + 8 * (h .order * h .order)) (omega arith)
+length-right : (c : tie.Else4) → let h = c .before .before .before .before .before .args .h in eqb (h .length) (16 + 8 * (h .order * h .order)) ≡ true
+length-right c = let h = c .before .before .before .before .before .args .h in eq-eqb (h .length) (16 + 8 * (h .order * h .order)) (omega arith)
 
-long-enough : (c : tie.Else5) → let x = c .before .before .before .before .before .before .before .args in ltb (x .bytes) (4 + x .h .length) ≡ false
+long-enough : (c : tie.Else5) → let x = c .before .before .before .before .before .before .args in ltb (x .bytes) (4 + x .h .length) ≡ false
 long-enough c = le-ltb _ _ (c .if5 .left)
 
 pub check-spec : {M : Type 1} → statement M
@@ -34,7 +34,7 @@ check-spec = tie.close (tie.spec
     (λ c. rw (kind-right (c .before), eq-eqb _ _ (c .if2 .taken)))
     (λ c. rw (kind-right (c .before .before), order-some (c .before), lt-ltb _ _ (c .if3 .taken)))
     (λ c κs. omega arith)
-    (λ c. let h = c .before .before .before .before .before .before .args .h in
+    (λ c. let h = c .before .before .before .before .before .args .h in
     rw (kind-right (c .before .before .before .before), order-some (c .before .before .before), order-small (c .before .before), ne-eqb (h .length) (16 + 8 * (h .order * h .order)) (λ e. c .if4 .taken (e ∙ sym (c .before .told .ensures)))))
     (λ c. omega arith)
     (λ c. rw (kind-right (c .before .before .before .before .before), order-some (c .before .before .before .before), order-small (c .before .before .before), length-right (c .before), lt-ltb _ _ (c .if5 .taken)))
