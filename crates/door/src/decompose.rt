@@ -174,6 +174,37 @@ fn small(
     )
 }
 
+fn modest(
+    m: &[u8],
+    n: usize,
+    tolerance: f64,
+    budget: u64,
+    wanted: bool,
+    t: &mut [u8],
+    q: &mut [u8],
+) -> u64
+    requires { ⌜ (n ≤ 16) × (n * n ≤ 256) × (matrixChecks n (now m) tolerance budget wanted (length (now t)) (length (now q)) ≡ Passed) ⌝ }
+    ensures { λ r. ⌜ matrices r (now (t .exit)) (now (q .exit)) ≡ ranBytes n (now (m .entry)) tolerance budget wanted (now (q .entry)) ⌝ }
+{
+    let mut a = [0.0f64; 256];
+    let mut b = [0.0f64; 256];
+    let mut c = [0.0f64; 256];
+    let mut w = [0.0f64; 32];
+    in_room(
+        m,
+        n,
+        tolerance,
+        budget,
+        wanted,
+        t,
+        q,
+        &mut a,
+        &mut b,
+        &mut c,
+        &mut w,
+    )
+}
+
 fn middle(
     m: &[u8],
     n: usize,
@@ -236,6 +267,28 @@ fn large(
     )
 }
 
+// The arguments have passed. For orders above 8.
+fn larger(
+    m: &[u8],
+    n: usize,
+    tolerance: f64,
+    budget: u64,
+    wanted: bool,
+    t: &mut [u8],
+    q: &mut [u8],
+) -> u64
+    requires { ⌜ matrixChecks n (now m) tolerance budget wanted (length (now t)) (length (now q)) ≡ Passed ⌝ }
+    ensures { λ r. ⌜ matrices r (now (t .exit)) (now (q .exit)) ≡ ranBytes n (now (m .entry)) tolerance budget wanted (now (q .entry)) ⌝ }
+{
+    if n <= 16 {
+        return modest(m, n, tolerance, budget, wanted, t, q);
+    }
+    if n <= 32 {
+        return middle(m, n, tolerance, budget, wanted, t, q);
+    }
+    large(m, n, tolerance, budget, wanted, t, q)
+}
+
 // The arguments have passed.
 fn run(
     m: &[u8],
@@ -252,10 +305,12 @@ fn run(
     if n <= 8 {
         return small(m, n, tolerance, budget, wanted, t, q);
     }
-    if n <= 32 {
-        return middle(m, n, tolerance, budget, wanted, t, q);
+    // Called in two places, so that the compiler keeps it apart: in line, its rooms would lie in one frame with
+    // the small one, and every call would touch each page of it.
+    if wanted {
+        return larger(m, n, tolerance, budget, true, t, q);
     }
-    large(m, n, tolerance, budget, wanted, t, q)
+    larger(m, n, tolerance, budget, false, t, q)
 }
 
 // The same, with the tolerance as its pattern.
