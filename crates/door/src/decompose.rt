@@ -174,6 +174,8 @@ fn small(
     )
 }
 
+// From here on a room is 72 numbers longer than it need be: so T and Q do not lie a whole number of pages apart,
+// where the processor takes a load of the one for a load of what was just stored in the other.
 fn modest(
     m: &[u8],
     n: usize,
@@ -186,9 +188,9 @@ fn modest(
     requires { ⌜ (n ≤ 16) × (n * n ≤ 256) × (matrixChecks n (now m) tolerance budget wanted (length (now t)) (length (now q)) ≡ Passed) ⌝ }
     ensures { λ r. ⌜ matrices r (now (t .exit)) (now (q .exit)) ≡ ranBytes n (now (m .entry)) tolerance budget wanted (now (q .entry)) ⌝ }
 {
-    let mut a = [0.0f64; 256];
-    let mut b = [0.0f64; 256];
-    let mut c = [0.0f64; 256];
+    let mut a = [0.0f64; 328];
+    let mut b = [0.0f64; 328];
+    let mut c = [0.0f64; 328];
     let mut w = [0.0f64; 32];
     in_room(
         m,
@@ -217,9 +219,9 @@ fn middle(
     requires { ⌜ (n ≤ 32) × (n * n ≤ 1024) × (matrixChecks n (now m) tolerance budget wanted (length (now t)) (length (now q)) ≡ Passed) ⌝ }
     ensures { λ r. ⌜ matrices r (now (t .exit)) (now (q .exit)) ≡ ranBytes n (now (m .entry)) tolerance budget wanted (now (q .entry)) ⌝ }
 {
-    let mut a = [0.0f64; 1024];
-    let mut b = [0.0f64; 1024];
-    let mut c = [0.0f64; 1024];
+    let mut a = [0.0f64; 1096];
+    let mut b = [0.0f64; 1096];
+    let mut c = [0.0f64; 1096];
     let mut w = [0.0f64; 64];
     in_room(
         m,
@@ -248,9 +250,9 @@ fn large(
     requires { ⌜ (n ≤ 64) × (n * n ≤ 4096) × (matrixChecks n (now m) tolerance budget wanted (length (now t)) (length (now q)) ≡ Passed) ⌝ }
     ensures { λ r. ⌜ matrices r (now (t .exit)) (now (q .exit)) ≡ ranBytes n (now (m .entry)) tolerance budget wanted (now (q .entry)) ⌝ }
 {
-    let mut a = [0.0f64; 4096];
-    let mut b = [0.0f64; 4096];
-    let mut c = [0.0f64; 4096];
+    let mut a = [0.0f64; 4168];
+    let mut b = [0.0f64; 4168];
+    let mut c = [0.0f64; 4168];
     let mut w = [0.0f64; 128];
     in_room(
         m,
