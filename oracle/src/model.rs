@@ -1,7 +1,29 @@
 //! A plain model of nalgebra 0.35.0's real f64 `Schur::try_new` (and of `SymmetricEigen::try_new`)
 //! with `Dyn` dimensions, holding exactly the formulas of SUMS-facts.md: counted loops over column-major
 //! slices, one rounding per operation, no nalgebra. Entry (r, c) of order n stands at r + c*n.
-//! Here some of its functions are `pub(crate)` besides, for the command `leaves`; nothing else was changed.
+//! Here some of its functions are `pub(crate)` besides, for the command `leaves`, and the roots of the
+//! decomposition go through `root`, which keeps their arguments where the command `speed` asks for them;
+//! nothing else was changed.
+
+use std::cell::RefCell;
+
+thread_local! {
+    /// The arguments of the roots since `schur_roots` began, on this thread; none are kept outside it.
+    static ROOTS: RefCell<Option<Vec<f64>>> = const { RefCell::new(None) };
+}
+
+/// The processor's root; its argument is kept if `schur_roots` is at work.
+fn root(x: f64) -> f64 {
+    ROOTS.with_borrow_mut(|roots| roots.iter_mut().for_each(|roots| roots.push(x)));
+    x.sqrt()
+}
+
+/// The arguments of all roots that `schur` takes, in their order.
+pub fn schur_roots(mat: &[f64], n: usize, eps: f64, budget: u64, want_q: bool) -> Vec<f64> {
+    ROOTS.set(Some(Vec::new()));
+    schur(mat, n, eps, budget, want_q);
+    ROOTS.take().unwrap_or_default()
+}
 
 /// What a run ended with.
 pub enum Run {
@@ -47,15 +69,15 @@ pub(crate) fn dot_small(x: &[f64], y: &[f64]) -> f64 {
 pub fn axis(c: &mut [f64], small: bool) -> (f64, bool) {
     let d = |c: &[f64]| if small { dot_small(c, c) } else { dot(c, c) };
     let sq = 0.0 + d(c);
-    let norm = sq.sqrt();
+    let norm = root(sq);
     let (modulus, sign) = to_exp(c[0]);
     let signed = sign * norm;
     let factor = (sq + modulus * norm) * 2.0;
     c[0] += signed;
     if factor == 0.0 { return (signed, false); }
-    let f = factor.sqrt();
+    let f = root(factor);
     for e in c.iter_mut() { *e /= f; }
-    let n = (0.0 + d(c)).sqrt();
+    let n = root(0.0 + d(c));
     for e in c.iter_mut() { *e /= n; }
     (-signed, true)
 }
@@ -148,7 +170,7 @@ pub fn eig2(h00: f64, h10: f64, h01: f64, h11: f64) -> Option<(f64, f64)> {
     let val = (h00 - h11) * 0.5;
     let discr = h10 * h01 + val * val;
     if !(discr >= 0.0) { return None; }
-    let root = discr.sqrt();
+    let root = root(discr);
     let half = (h00 + h11) * 0.5;
     Some((half + root, half - root))
 }
@@ -156,7 +178,7 @@ pub fn eig2(h00: f64, h10: f64, h01: f64, h11: f64) -> Option<(f64, f64)> {
 /// GivensRotation::try_new: (cosine, sine), or none.
 pub(crate) fn givens(c: f64, s: f64, eps: f64) -> Option<(f64, f64)> {
     let (m, sign) = to_exp(c);
-    let denom = (m * m + s * s).sqrt();
+    let denom = root(m * m + s * s);
     if denom > eps { Some((m / denom, s / (sign * denom))) } else { None }
 }
 

@@ -174,6 +174,39 @@ fn small(
     )
 }
 
+// From here on a room is 72 numbers longer than it need be: so T and Q do not lie a whole number of pages apart,
+// where the processor takes a load of the one for a load of what was just stored in the other.
+fn modest(
+    m: &[u8],
+    n: usize,
+    tolerance: f64,
+    budget: u64,
+    wanted: bool,
+    t: &mut [u8],
+    q: &mut [u8],
+) -> u64
+    requires { ⌜ (n ≤ 16) × (n * n ≤ 256) × (matrixChecks n (now m) tolerance budget wanted (length (now t)) (length (now q)) ≡ Passed) ⌝ }
+    ensures { λ r. ⌜ matrices r (now (t .exit)) (now (q .exit)) ≡ ranBytes n (now (m .entry)) tolerance budget wanted (now (q .entry)) ⌝ }
+{
+    let mut a = [0.0f64; 328];
+    let mut b = [0.0f64; 328];
+    let mut c = [0.0f64; 328];
+    let mut w = [0.0f64; 32];
+    in_room(
+        m,
+        n,
+        tolerance,
+        budget,
+        wanted,
+        t,
+        q,
+        &mut a,
+        &mut b,
+        &mut c,
+        &mut w,
+    )
+}
+
 fn middle(
     m: &[u8],
     n: usize,
@@ -186,9 +219,9 @@ fn middle(
     requires { ⌜ (n ≤ 32) × (n * n ≤ 1024) × (matrixChecks n (now m) tolerance budget wanted (length (now t)) (length (now q)) ≡ Passed) ⌝ }
     ensures { λ r. ⌜ matrices r (now (t .exit)) (now (q .exit)) ≡ ranBytes n (now (m .entry)) tolerance budget wanted (now (q .entry)) ⌝ }
 {
-    let mut a = [0.0f64; 1024];
-    let mut b = [0.0f64; 1024];
-    let mut c = [0.0f64; 1024];
+    let mut a = [0.0f64; 1096];
+    let mut b = [0.0f64; 1096];
+    let mut c = [0.0f64; 1096];
     let mut w = [0.0f64; 64];
     in_room(
         m,
@@ -217,9 +250,9 @@ fn large(
     requires { ⌜ (n ≤ 64) × (n * n ≤ 4096) × (matrixChecks n (now m) tolerance budget wanted (length (now t)) (length (now q)) ≡ Passed) ⌝ }
     ensures { λ r. ⌜ matrices r (now (t .exit)) (now (q .exit)) ≡ ranBytes n (now (m .entry)) tolerance budget wanted (now (q .entry)) ⌝ }
 {
-    let mut a = [0.0f64; 4096];
-    let mut b = [0.0f64; 4096];
-    let mut c = [0.0f64; 4096];
+    let mut a = [0.0f64; 4168];
+    let mut b = [0.0f64; 4168];
+    let mut c = [0.0f64; 4168];
     let mut w = [0.0f64; 128];
     in_room(
         m,
@@ -234,6 +267,28 @@ fn large(
         &mut c,
         &mut w,
     )
+}
+
+// The arguments have passed. For orders above 8.
+fn larger(
+    m: &[u8],
+    n: usize,
+    tolerance: f64,
+    budget: u64,
+    wanted: bool,
+    t: &mut [u8],
+    q: &mut [u8],
+) -> u64
+    requires { ⌜ matrixChecks n (now m) tolerance budget wanted (length (now t)) (length (now q)) ≡ Passed ⌝ }
+    ensures { λ r. ⌜ matrices r (now (t .exit)) (now (q .exit)) ≡ ranBytes n (now (m .entry)) tolerance budget wanted (now (q .entry)) ⌝ }
+{
+    if n <= 16 {
+        return modest(m, n, tolerance, budget, wanted, t, q);
+    }
+    if n <= 32 {
+        return middle(m, n, tolerance, budget, wanted, t, q);
+    }
+    large(m, n, tolerance, budget, wanted, t, q)
 }
 
 // The arguments have passed.
@@ -252,10 +307,12 @@ fn run(
     if n <= 8 {
         return small(m, n, tolerance, budget, wanted, t, q);
     }
-    if n <= 32 {
-        return middle(m, n, tolerance, budget, wanted, t, q);
+    // Called in two places, so that the compiler keeps it apart: in line, its rooms would lie in one frame with
+    // the small one, and every call would touch each page of it.
+    if wanted {
+        return larger(m, n, tolerance, budget, true, t, q);
     }
-    large(m, n, tolerance, budget, wanted, t, q)
+    larger(m, n, tolerance, budget, false, t, q)
 }
 
 // The same, with the tolerance as its pattern.

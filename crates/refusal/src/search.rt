@@ -1,9 +1,12 @@
 // The first entry of a matrix that is at fault, column by column. A matrix of order n, at most 64, lies
 // column by column in a slice; in one of another length nothing is found.
 ghost use mathlib.Core.Path.{_≡_};
+ghost use mathlib.Core.Bool.{true};
 ghost use lib.ListN.{length};
-ghost use Prim.Native.Nat.{_+_, _*_, _<_, _≤_};
+ghost use Prim.Native.Nat.{ℕ, _+_, _*_, _<_, _≤_};
 ghost use Rattle.loops.specs.First.{firstFrom};
+ghost use Rattle.loops.specs.Rounded.{_!_};
+ghost use Rattle.scalar.specs.Class.{isFinite};
 ghost use Rattle.refusal.specs.Search.{firstRow, firstPlace, notFinite, spoils, firstNotFinite, firstSpoiling};
 use crate::refusal::Place;
 
@@ -43,11 +46,37 @@ fn place_not_finite(t: &[f64], n: usize) -> Search
     Search::Nowhere
 }
 
-// The first entry that is NaN or infinite.
+// The count, and one more where x is not finite.
+fn count(bad: usize, x: f64) -> usize
+    requires { ⌜ bad < 18446744073709551615 ⌝ }
+    ensures { λ r. ⌜ (r ≤ bad + 1) × (r ≡ 0 → bad ≡ 0) × (r ≡ 0 → isFinite x ≡ true) ⌝ }
+{
+    if scalar::is_finite(x) {
+        return bad;
+    }
+    bad + 1
+}
+
+// Whether all numbers are finite. Those that are not are counted, and nothing leaves the loop: so the compiler
+// takes several at once.
+fn all_finite(t: &[f64]) -> bool
+    ensures { λ r. ⌜ (r ≡ true → (k : ℕ) → k < length (now (t .entry)) → isFinite (now (t .entry) ! k) ≡ true) ⌝ }
+{
+    let mut bad = 0;
+    for i in 0..t.len() {
+        bad = count(bad, t[i]);
+    }
+    bad == 0
+}
+
+// The first entry that is NaN or infinite: sought only where there is one.
 pub fn first_not_finite(t: &[f64], n: usize) -> Search
     ensures { λ r. ⌜ r ≡ firstNotFinite n (now (t .entry)) ⌝ }
 {
     if !matrix::block_fits(n, t.len(), 0, n, 0, n) {
+        return Search::Nowhere;
+    }
+    if all_finite(t) {
         return Search::Nowhere;
     }
     place_not_finite(t, n)

@@ -2,7 +2,8 @@
 // pattern becomes a float here. A matrix of order n, at most 64, lies column by column in a slice of bytes; in
 // one of another length nothing is found.
 ghost use mathlib.Core.Path.{_≡_};
-ghost use Prim.Native.Nat.{_+_, _*_, _/_, _<_, _≤_};
+ghost use mathlib.Core.Bool.{true};
+ghost use Prim.Native.Nat.{ℕ, _+_, _*_, _/_, _<_, _≤_};
 ghost use lib.ListN.{length};
 ghost use Rattle.loops.specs.Rounded.{_!_};
 ghost use Rattle.scalar.specs.Class.{isFinite};
@@ -49,11 +50,37 @@ fn place_not_finite(b: &[u8], n: usize) -> refusal::Search
     refusal::Search::Nowhere
 }
 
-// The first pattern that is NaN or infinite.
+// The count, and one more where a pattern is not that of a finite number.
+fn count(bad: usize, finite: bool) -> usize
+    requires { ⌜ bad < 18446744073709551615 ⌝ }
+    ensures { λ r. ⌜ (r ≤ bad + 1) × (r ≡ 0 → bad ≡ 0) × (r ≡ 0 → finite ≡ true) ⌝ }
+{
+    if finite {
+        return bad;
+    }
+    bad + 1
+}
+
+// Whether all patterns are those of finite numbers. The others are counted, and nothing leaves the loop: so the
+// compiler takes several at once.
+fn all_finite(b: &[u8]) -> bool
+    ensures { λ r. ⌜ (r ≡ true → (k : ℕ) → k < length (now (b .entry)) / 8 → isFinite (floatsOf (now (b .entry)) ! k) ≡ true) ⌝ }
+{
+    let mut bad = 0;
+    for k in 0..b.len() / 8 {
+        bad = count(bad, is_finite(b, k));
+    }
+    bad == 0
+}
+
+// The first pattern that is NaN or infinite: sought only where there is one.
 pub fn first_not_finite(b: &[u8], n: usize) -> refusal::Search
     ensures { λ r. ⌜ r ≡ firstNotFinite n (floatsOf (now (b .entry))) ⌝ }
 {
     if !matrix::block_fits(n, b.len() / 8, 0, n, 0, n) {
+        return refusal::Search::Nowhere;
+    }
+    if all_finite(b) {
         return refusal::Search::Nowhere;
     }
     place_not_finite(b, n)
