@@ -1,10 +1,10 @@
 -- `refusal::search::all_finite` meets its contract. Assumes nothing.
-use Prim.Native.Nat.{ℕ, _+_, _-_, _<_, _≤_}
+use Prim.Native.Nat.{ℕ, _-_, _<_, _≤_}
 use mathlib.Core.Bool.{true}
 use mathlib.Core.List.{List}
-use mathlib.Core.Path.{_≡_, sym, ap, _∙_}
-use native.Mathlib.Decide.{decLt}
+use mathlib.Core.Path.{_≡_}
 use native.Mathlib.Omega.{arith}
+use borrow.Author.Count.{below-more}
 use borrow.Author.Tests.{eqb-true}
 use lib.Ieee.{Float}
 use Rattle.loops.specs.Rounded.{_!_}
@@ -12,19 +12,12 @@ use Rattle.scalar.specs.Class.{isFinite}
 use Rattle.refusal.proofs.search.all_finite.Statement.{statement}
 use Rattle.refusal.proofs.search.all_finite.Tie as tie
 
--- the numbers before i
+-- number k is finite
 abbrev Finite : List Float → ℕ → Type 0
-Finite t i = (k : ℕ) → k < i → isFinite (t ! k) ≡ true
-
-one-more : (t : List Float) (i : ℕ) → Finite t i → isFinite (t ! i) ≡ true → Finite t (i + 1)
-one-more t i before here k l = go (decLt k i)
-  where
-    go : Dec (k < i) → isFinite (t ! k) ≡ true
-    go (yes m) = before k m
-    go (no m) = let e : k ≡ i = omega arith in ap (λ k. isFinite (t ! k)) e ∙ here
+Finite t k = isFinite (t ! k) ≡ true
 
 abbrev Inv-loop : tie.InvT-loop
-Inv-loop t bad₀ i₀ i-end bad i = (i ≤ i-end) × (bad ≤ i) × (bad ≡ 0 → Finite t i)
+Inv-loop t bad₀ i₀ i-end bad i = (i ≤ i-end) × (bad ≤ i) × (bad ≡ 0 → (k : ℕ) → k < i → Finite t k)
 
 abbrev μ-loop : tie.MeasureT-loop
 μ-loop t bad₀ i₀ i-end bad i = i-end - i
@@ -33,7 +26,7 @@ loop-holds : tie.Need-loop-holds Inv-loop μ-loop
 loop-holds c = (omega arith, omega arith, λ _ k l. absurd (omega arith))
 
 loop-again : tie.Need-loop-again Inv-loop μ-loop
-loop-again c = (omega arith, omega (arith, c .count .ensures .0), λ e. one-more (c .before .before .before .before .before .args .t .now) _ (c .before .before .before .loop .inv .2 (c .count .ensures .1 e)) (c .count .ensures .2 e))
+loop-again c = (omega arith, omega (arith, c .count .ensures .0), λ e. below-more (Finite (c .before .before .before .before .before .args .t .now)) _ (c .before .before .before .loop .inv .2 (c .count .ensures .1 e)) (c .count .ensures .2 e))
 
 returns : tie.Need-returns Inv-loop μ-loop
 returns c e k l = c .before .loop .inv .2 (eqb-true _ _ e) k (omega arith)

@@ -1,10 +1,10 @@
 -- `words::search::all_finite` meets its contract. Assumes nothing.
-use Prim.Native.Nat.{ℕ, _+_, _-_, _<_, _≤_}
+use Prim.Native.Nat.{ℕ, _-_, _<_, _≤_}
 use mathlib.Core.Bool.{true}
 use mathlib.Core.List.{List}
-use mathlib.Core.Path.{_≡_, sym, ap, _∙_}
-use native.Mathlib.Decide.{decLt}
+use mathlib.Core.Path.{_≡_, sym, _∙_}
 use native.Mathlib.Omega.{arith}
+use borrow.Author.Count.{below-more}
 use borrow.Author.Tests.{eqb-true}
 use Rattle.loops.specs.Rounded.{_!_}
 use Rattle.scalar.specs.Class.{isFinite}
@@ -12,19 +12,12 @@ use Rattle.words.specs.Floats.{floatsOf}
 use Rattle.words.proofs.search.all_finite.Statement.{statement}
 use Rattle.words.proofs.search.all_finite.Tie as tie
 
--- the numbers before i
+-- number k is finite
 abbrev Finite : List ℕ → ℕ → Type 0
-Finite b i = (k : ℕ) → k < i → isFinite (floatsOf b ! k) ≡ true
-
-one-more : (b : List ℕ) (i : ℕ) → Finite b i → isFinite (floatsOf b ! i) ≡ true → Finite b (i + 1)
-one-more b i before here k l = go (decLt k i)
-  where
-    go : Dec (k < i) → isFinite (floatsOf b ! k) ≡ true
-    go (yes m) = before k m
-    go (no m) = let e : k ≡ i = omega arith in ap (λ k. isFinite (floatsOf b ! k)) e ∙ here
+Finite b k = isFinite (floatsOf b ! k) ≡ true
 
 abbrev Inv-loop : tie.InvT-loop
-Inv-loop b bad₀ k₀ k-end bad k = (k ≤ k-end) × (bad ≤ k) × (bad ≡ 0 → Finite b k)
+Inv-loop b bad₀ k₀ k-end bad k = (k ≤ k-end) × (bad ≤ k) × (bad ≡ 0 → (j : ℕ) → j < k → Finite b j)
 
 abbrev μ-loop : tie.MeasureT-loop
 μ-loop b bad₀ k₀ k-end bad k = k-end - k
@@ -33,7 +26,7 @@ loop-holds : tie.Need-loop-holds Inv-loop μ-loop
 loop-holds c = (omega arith, omega arith, λ _ k l. absurd (omega arith))
 
 loop-again : tie.Need-loop-again Inv-loop μ-loop
-loop-again c = (omega arith, omega (arith, c .count .ensures .0), λ e. one-more (c .before .before .before .before .before .args .b .now) _ (c .before .before .before .loop .inv .2 (c .count .ensures .1 e)) (sym (c .before .is-finite .ensures) ∙ c .count .ensures .2 e))
+loop-again c = (omega arith, omega (arith, c .count .ensures .0), λ e. below-more (Finite (c .before .before .before .before .before .args .b .now)) _ (c .before .before .before .loop .inv .2 (c .count .ensures .1 e)) (sym (c .before .is-finite .ensures) ∙ c .count .ensures .2 e))
 
 returns : tie.Need-returns Inv-loop μ-loop
 returns c e k l = c .before .loop .inv .2 (eqb-true _ _ e) k (omega arith)
