@@ -107,7 +107,7 @@ struct Options {
 impl Options {
     fn read(arguments: &[String]) -> Result<Options, String> {
         let mut options = Options {
-            small: 500_000,
+            small: 600_000,
             large: 5000,
             seed: options::SEED,
             file: None,
