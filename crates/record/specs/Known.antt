@@ -36,10 +36,10 @@ openedRecord = tt
 sample : List ℕ
 sample = recorded 48 1 2 1 0 (0x4000000000000000 ∷ 0 ∷ 0 ∷ 0x4008000000000000 ∷ [])
 
-printed : textOf sample ≡ ascii
+sample-text : textOf sample ≡ ascii
     "order 2 passes 0\nt 0 0 4000000000000000\nt 1 0 0000000000000000\nt 0 1 0000000000000000\nt 1 1 4008000000000000\nq 0 0 3ff0000000000000\nq 1 0 0000000000000000\nq 0 1 0000000000000000\nq 1 1 3ff0000000000000\ne 0 4000000000000000 0000000000000000\ne 1 4008000000000000 0000000000000000\n"
 unfolding openedRecord sample
-printed = refl
+sample-text = refl
 
 -- ---- refusals, each with the first of its faults
 
@@ -104,7 +104,7 @@ known = refl
 -- ---- the complex reader's own refusal, which stands after Q
 
 -- a block of two, rows (5e299 -1e300), (1e300 -5e299), whose discriminant is NaN
-notRead : textOf (recorded 48 1 2 1 0 (0x7e27e43c8800759c ∷ 0x7e37e43c8800759c ∷ 0xfe37e43c8800759c ∷ 0xfe27e43c8800759c ∷ [])) ≡ ascii
+not-read : textOf (recorded 48 1 2 1 0 (0x7e27e43c8800759c ∷ 0x7e37e43c8800759c ∷ 0xfe37e43c8800759c ∷ 0xfe27e43c8800759c ∷ [])) ≡ ascii
     "order 2 passes 0\nt 0 0 7e27e43c8800759c\nt 1 0 7e37e43c8800759c\nt 0 1 fe37e43c8800759c\nt 1 1 fe27e43c8800759c\nq 0 0 3ff0000000000000\nq 1 0 0000000000000000\nq 0 1 0000000000000000\nq 1 1 3ff0000000000000\neigenvalues refused 11 0 0\n"
 unfolding openedRecord
-notRead = refl
+not-read = refl

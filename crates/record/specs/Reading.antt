@@ -1,7 +1,9 @@
 -- What one read of the input comes to, told what it answers: below 0 where it failed, 0 at the end of the input, else how many bytes came, which may be fewer
 -- than there is room for.
 use Prim.Native.Nat.{ℕ, zero, suc, _+_, _≤_, min}
+use mathlib.Core.List.{List}
 use lib.IntN.{ℤ, pos, negsuc}
+use lib.ListN.{replicate}
 use Rattle.record.specs.declared.reading.Reading.{Reading}
 use Rattle.record.specs.declared.reading.Reading.the-variants.{More, End, Broken}
 use Rattle.record.specs.declared.reading.Filled.{Filled}
@@ -12,6 +14,10 @@ unfoldable pub afterRead : ℕ → ℕ → ℤ → Reading
 afterRead done room (negsuc k) = Broken
 afterRead done room (pos zero) = End
 afterRead done room (pos (suc k)) = More (done + min (suc k) room)
+
+-- n zeros, to read into
+unfoldable pub blank : ℕ → List ℕ
+blank n = replicate n 0
 
 -- so many bytes lie within the room
 abbrev pub Within : Filled → ℕ → Type 0

@@ -3,7 +3,7 @@
 ghost use mathlib.Core.Path.{_≡_};
 ghost use Prim.Native.Nat.{_+_, _<_, _^_};
 ghost use lib.ListN.{length};
-ghost use Rattle.record.specs.Reading.{afterRead, Within};
+ghost use Rattle.record.specs.Reading.{afterRead, blank, Within};
 
 // What one read comes to: more bytes, all in all so many; the end of the input; or it failed.
 pub enum Reading {
@@ -20,6 +20,7 @@ pub enum Filled {
 
 // One byte more than the longest record, so that a longer input is seen to be longer.
 pub fn room() -> [u8; 8213]
+    ensures { λ r. ⌜ r ≡ blank 8213 ⌝ }
     ensures { λ r. ⌜ 8213 ≡ length r ⌝ }
 {
     [0; 8213]
