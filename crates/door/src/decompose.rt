@@ -174,8 +174,8 @@ fn small(
     )
 }
 
-// From here on a room is 72 numbers longer than it need be: so T and Q do not lie a whole number of pages apart,
-// where the processor takes a load of the one for a load of what was just stored in the other.
+// From here on a room is 72 numbers longer than it need be, so that T and Q do not lie a whole number of pages
+// apart, which took longer (docs/SPEED.md).
 fn modest(
     m: &[u8],
     n: usize,
