@@ -1,6 +1,6 @@
 -- The text that the definitions give, by what the library has answered. Assumes nothing.
 use Prim.Native.Nat.{ℕ, _+_, _-_, _*_, _<_, _≤_}
-use mathlib.Core.Path.{_≡_, ap, _∙_}
+use mathlib.Core.Path.{_≡_, ap}
 use mathlib.Core.Bool.{true}
 use mathlib.Core.List.{List}
 use native.Mathlib.Nat.{mul-le-mul}
@@ -9,7 +9,7 @@ use borrow.Author.Tests.{eqb-true, ltb-false, lt-ltb, le-ltb, not-false}
 use lib.ListN.{length, take, drop, length-drop}
 use lib.Seq.{take-all}
 use lib.Ieee.{Float, binary64, ofBits}
-use Rattle.pass.specs.Pair.{Pair, pair}
+use Rattle.pass.specs.Pair.{pair}
 use Rattle.refusal.specs.declared.refusal.Refusal.{Refusal}
 use Rattle.refusal.specs.declared.refusal.Refusal.the-variants.{InputCutShort}
 use Rattle.refusal.specs.declared.refusal.Checked.{Checked}

@@ -12,8 +12,8 @@ use Rattle.refusal.specs.Refusal.{toldOf}
 use Rattle.words.specs.Floats.{floatsOf, zeros}
 use Rattle.decomposition.specs.declared.Decomposed.{Decomposed}
 use Rattle.decomposition.specs.declared.Decomposed.the-variants.{Accepted, Declined}
-use Rattle.decomposition.specs.Decomposition.{Outcome, decompositionOf}
-use Rattle.eigenvalues.specs.Readers.{ComplexRead, complexRead}
+use Rattle.decomposition.specs.Decomposition.{decompositionOf}
+use Rattle.eigenvalues.specs.Readers.{complexRead}
 use Rattle.record.specs.declared.header.Header.{Header}
 use Rattle.record.specs.Text.{ascii, refusedLine, passesLine, matrixLines, eigenvalueLines}
 use Rattle.record.specs.Record.{headerOf, recordChecks}

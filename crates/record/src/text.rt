@@ -1,15 +1,12 @@
 // The text for a record: the header is checked, the matrix decomposed, T, Q and the eigenvalues are written out.
 ghost use mathlib.Core.Path.{_≡_};
-ghost use Prim.Native.Nat.{_+_, _*_, _<_, _≤_, _^_};
-ghost use lib.ListN.{length, drop};
-ghost use lib.Ieee.{binary64, ofBits};
+ghost use Prim.Native.Nat.{_+_, _*_, _≤_};
+ghost use lib.ListN.{length};
 ghost use Rattle.io.specs.Counts.{Counts};
 ghost use Rattle.pass.specs.Pair.{pair};
-ghost use Rattle.refusal.specs.declared.refusal.Checked.the-variants.{Passed};
 ghost use Rattle.words.specs.Floats.{floatsOf};
 ghost use Rattle.decomposition.specs.declared.Decomposed.the-variants.{Accepted};
 ghost use Rattle.record.specs.Page.{page, printed, more};
-ghost use Rattle.record.specs.Record.{headerOf, headerChecks, recordChecks};
 ghost use Rattle.record.specs.Answer.{eigenvaluesText, readText, decomposedText, matrixText, textOf};
 use crate::header::Header;
 use crate::header::check;

@@ -1,8 +1,7 @@
 -- `record::lines::put_matrix` meets its contract. Assumes nothing.
 use Prim.Native.Nat.{_-_, _*_, _/_, _%_, _≤_}
-use mathlib.Core.Path.{_≡_, _∙_}
+use mathlib.Core.Path.{_≡_}
 use native.Mathlib.Omega.{arith}
-use borrow.Author.Needs.{needs}
 use lib.Ieee.{binary64, toBits}
 use Rattle.loops.specs.Rounded.{_!_}
 use Rattle.record.specs.Text.{entryLine, matrixLines}

@@ -1,5 +1,4 @@
 -- `record::text::put_accepted` meets its contract. Assumes nothing.
-use Prim.Native.Char.{code}
 use native.Mathlib.Omega.{arith}
 use Rattle.record.specs.Text.{passesLine, matrixLines}
 use Rattle.record.specs.Answer.{readText, decomposedText}

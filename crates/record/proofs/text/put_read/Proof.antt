@@ -1,7 +1,6 @@
 -- `record::text::put_read` meets its contract. Assumes nothing.
 use mathlib.Core.Path.{ap, _∙_}
 use native.Mathlib.Omega.{arith}
-use borrow.Author.Needs.{needs}
 use Rattle.words.proofs.Between.{filled-zeros}
 use Rattle.record.specs.Page.{page, more}
 use Rattle.record.proofs.Answering.{read-text}
