@@ -10,14 +10,14 @@ use lib.Dec.{ltb}
 use Rattle.loops.specs.Until.{until, until-out, until-stop, until-turn}
 
 -- from k on
-unfoldable pub firstFrom : (ℕ → Bool) → ℕ → ℕ → ℕ
+unfoldable pub firstFrom : (ℕ → Bool) → (n k : ℕ) → ℕ
 firstFrom test n k = until test (λ i. i + 1) (n - k) k
 
 abbrev pub first : (ℕ → Bool) → ℕ → ℕ
 first test n = firstFrom test n 0
 
 -- whether the test names some number from a to below b
-abbrev pub some : (ℕ → Bool) → ℕ → ℕ → Bool
+abbrev pub some : (ℕ → Bool) → (a b : ℕ) → Bool
 some test a b = ltb (firstFrom test b a) b
 
 -- ---- a loop: here it is; not here; there is none

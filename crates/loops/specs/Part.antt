@@ -6,11 +6,11 @@ use native.Mathlib.Omega.{arith}
 use lib.ListN.{length, getD, take, drop, length-append, length-take, length-drop, List·getD-append}
 use lib.Seq.{getD-append-add, getD-take, getD-drop, take-at, drop-at}
 
-abbrev pub part : {A : Type 0} → ℕ → ℕ → List A → List A
+abbrev pub part : {A : Type 0} → (a e : ℕ) → List A → List A
 part a e t = take (e - a) (drop a t)
 
 -- in the very form in which a part that was lent comes back
-unfoldable pub onPart : {A : Type 0} → (List A → List A) → ℕ → ℕ → List A → List A
+unfoldable pub onPart : {A : Type 0} → (List A → List A) → (a e : ℕ) → List A → List A
 onPart f a e t = take a t ++ (f (take (e - a) (drop a t)) ++ drop (e - a) (drop a t))
 
 pub part-length : {A : Type 0} (a e : ℕ) (t : List A) → a ≤ e → e ≤ length t → length (part a e t) ≡ e - a

@@ -10,7 +10,7 @@ use native.Mathlib.Omega.{arith}
 use mathlib.Core.Logic.{_≢_}
 
 -- row i of column j of a matrix of order n
-abbrev pub place : ℕ → ℕ → ℕ → ℕ
+abbrev pub place : (n i j : ℕ) → ℕ
 place n i j = j * n + i
 
 pub in-square : (n i j : ℕ) → i < n → j < n → j * n + i < n * n

@@ -69,7 +69,7 @@ times-both R f g (suc n) a b keep h = keep n (times f n a) (times g n b) (times-
 
 -- ---- `for i in a..b`
 
-unfoldable pub range : {A : Type 0} → (ℕ → A → A) → ℕ → ℕ → A → A
+unfoldable pub range : {A : Type 0} → (ℕ → A → A) → (a b : ℕ) → A → A
 range f a b s = times (λ k. f (a + k)) (b - a) s
 
 pub range-none : {A : Type 0} (f : ℕ → A → A) (a : ℕ) (s : A) → range f a a s ≡ s
