@@ -54,7 +54,7 @@ plainCame r z = came (checkedTold (r .answer)) (r .values) (r .work) z
 -- ---- all of them
 
 -- m is the matrix or T of order n
-unfoldable pub callOf : ℕ → List Float → ℕ → Float → ℕ → List Float → List Float → List Float → Came
+unfoldable pub callOf : (entry : ℕ) → (m : List Float) → (n : ℕ) → (tolerance : Float) → (budget : ℕ) → (x y z : List Float) → Came
 callOf entry m n tolerance budget x y z =
     cond (eqb entry 1) (decomposedCame (decompositionOf true n tolerance budget m (pair x y) z))
     (cond (eqb entry 2) (decomposedCame (decompositionOf false n tolerance budget m (pair x y) z))

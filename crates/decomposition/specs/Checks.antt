@@ -22,10 +22,10 @@ unfoldable pub budgetFits : ℕ → Bool
 budgetFits b = leb 1 b && leb b 1000000
 
 -- whether every lent slice has its length: the matrix, T, Q, the workspace; that of Q is not looked at where Q is not wanted
-unfoldable pub lengthsFit : Bool → ℕ → ℕ → ℕ → ℕ → ℕ → Bool
+unfoldable pub lengthsFit : (wanted : Bool) → (n mn tn qn wn : ℕ) → Bool
 lengthsFit wanted n mn tn qn wn = eqb mn (n * n) && (eqb tn (n * n) && ((not wanted || eqb qn (n * n)) && eqb wn (2 * n)))
 
-unfoldable pub argumentChecks : Bool → ℕ → Float → ℕ → List Float → Checked
+unfoldable pub argumentChecks : (lengths : Bool) → (n : ℕ) → (tolerance : Float) → (budget : ℕ) → (m : List Float) → Checked
 argumentChecks lengths n tolerance budget m =
     refuse (eqb n 0) OrderZero
     next refuse (ltb 64 n) OrderTooLarge
@@ -36,7 +36,7 @@ argumentChecks lengths n tolerance budget m =
 
 -- ---- after a run that ended: T first, or else Q
 
-unfoldable pub resultChecks : Bool → ℕ → Pair → Checked
+unfoldable pub resultChecks : (wanted : Bool) → (n : ℕ) → Pair → Checked
 resultChecks wanted n p =
     refuseAt ResultNotFinite (firstNotFinite n (p .t))
     next cond wanted (refuseAt ResultNotFinite (firstNotFinite n (p .q))) Passed

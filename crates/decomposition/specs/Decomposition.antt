@@ -30,7 +30,7 @@ outcome answer p w = record { answer = answer; pair = p; work = w }
 -- ---- after a run
 
 -- The budget was reached: 7. Else T and Q are looked at. That an argument does not fit is never met here, since the lengths were checked before.
-unfoldable pub verdict : Bool → ℕ → Pair → Ran → Checked
+unfoldable pub verdict : (wanted : Bool) → (n : ℕ) → Pair → Ran → Checked
 verdict wanted n p (Ended passes) = resultChecks wanted n p
 verdict wanted n p (BudgetReached window) = Refused refusal.BudgetReached
 verdict wanted n p Unfit = Refused refusal.WrongLength
@@ -52,12 +52,12 @@ pub record Settlement : Type 0 where
 abbrev pub settlement : Decomposed → Pair → Settlement
 settlement answer p = record { answer = answer; pair = p }
 
-unfoldable pub settled : Bool → ℕ → Checked → Pair → Settlement
+unfoldable pub settled : (wanted : Bool) → (passes : ℕ) → Checked → Pair → Settlement
 settled wanted passes Passed p = settlement (Accepted passes) p
 settled wanted passes (Refused r) p = settlement (Declined r) (spoiled wanted p)
 
 -- accepted or refused, the workspace is +0 throughout
-unfoldable pub judged : Bool → ℕ → Left → List Float → Outcome
+unfoldable pub judged : (wanted : Bool) → (n : ℕ) → Left → (w : List Float) → Outcome
 judged wanted n l w =
     let s = settled wanted (passesOf (l .answer)) (verdict wanted n (l .pair) (l .answer)) (l .pair) in
     outcome (s .answer) (s .pair) (filled zero w)
@@ -70,7 +70,7 @@ begun Passed ran p w = ran
 begun (Refused r) ran p w = outcome (Declined r) p w
 
 -- m is the matrix; p is what is lent for T and Q, and w the workspace
-unfoldable pub decompositionOf : Bool → ℕ → Float → ℕ → List Float → Pair → List Float → Outcome
+unfoldable pub decompositionOf : (wanted : Bool) → (n : ℕ) → (tolerance : Float) → (budget : ℕ) → (m : List Float) → Pair → (w : List Float) → Outcome
 decompositionOf wanted n tolerance budget m p w =
     let lengths = lengthsFit wanted n (length m) (length (p .t)) (length (p .q)) (length w) in
     begun (argumentChecks lengths n tolerance budget m) (judged wanted n (ranOf wanted n tolerance budget (pair m (p .q)) w) w) p w

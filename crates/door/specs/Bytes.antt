@@ -21,7 +21,7 @@ use Rattle.words.specs.Floats.{floatsOf, bytesOf, zeros}
 use Rattle.door.specs.Answer.{refusalNumber, checkedNumber, decomposedNumber}
 
 -- whether so many bytes are k patterns
-abbrev pub holds : ℕ → ℕ → Bool
+abbrev pub holds : (k bytes : ℕ) → Bool
 holds k bytes = eqb bytes (8 * k)
 
 -- ---- the decomposition
@@ -35,7 +35,7 @@ abbrev pub matrices : ℕ → List ℕ → List ℕ → Matrices
 matrices answer t q = record { answer = answer; t = t; q = q }
 
 -- 1 to 6; tn and qn are the lengths of what is lent for T and Q
-unfoldable pub matrixChecks : ℕ → List ℕ → Float → ℕ → Bool → ℕ → ℕ → Checked
+unfoldable pub matrixChecks : (n : ℕ) → (m : List ℕ) → (eps : Float) → (budget : ℕ) → (wanted : Bool) → (tn qn : ℕ) → Checked
 matrixChecks n m eps budget wanted tn qn =
     argumentChecks (holds (n * n) (length m) && (holds (n * n) tn && (not wanted || holds (n * n) qn))) n eps budget (floatsOf m)
 
@@ -44,7 +44,7 @@ unfoldable pub writtenMatrices : Bool → Outcome → List ℕ → Matrices
 writtenMatrices wanted o q = matrices (decomposedNumber (o .answer)) (bytesOf (o .pair .t)) (cond wanted (bytesOf (o .pair .q)) q)
 
 -- after the run, accepted or refused
-unfoldable pub ranBytes : ℕ → List ℕ → Float → ℕ → Bool → List ℕ → Matrices
+unfoldable pub ranBytes : (n : ℕ) → (m : List ℕ) → (eps : Float) → (budget : ℕ) → (wanted : Bool) → (q : List ℕ) → Matrices
 ranBytes n m eps budget wanted q =
     let run = ranOf wanted n eps budget (pair (floatsOf m) (zeros (n * n))) (zeros (2 * n)) in
     writtenMatrices wanted (judged wanted n run (zeros (2 * n))) q
@@ -53,7 +53,7 @@ unfoldable pub decomposedFrom : Checked → Matrices → List ℕ → List ℕ �
 decomposedFrom Passed written t q = written
 decomposedFrom (Refused r) written t q = matrices (refusalNumber r) t q
 
-unfoldable pub decomposeBytes : ℕ → List ℕ → ℕ → ℕ → Bool → List ℕ → List ℕ → Matrices
+unfoldable pub decomposeBytes : (n : ℕ) → (m : List ℕ) → (tolerance budget : ℕ) → (wanted : Bool) → (t q : List ℕ) → Matrices
 decomposeBytes n m tolerance budget wanted t q =
     let eps = ofBits binary64 tolerance in
     decomposedFrom (matrixChecks n m eps budget wanted (length t) (length q)) (ranBytes n m eps budget wanted q) t q
@@ -89,7 +89,7 @@ complexBytes n t re im =
 -- ---- the plain entry
 
 -- 1, 2, 3 and 6, which the readers check too before anything else; `lists` says whether every list of eigenvalues has its length
-unfoldable pub listChecks : ℕ → List ℕ → Bool → Checked
+unfoldable pub listChecks : (n : ℕ) → (m : List ℕ) → (lists : Bool) → Checked
 listChecks n m lists = plainChecks (holds (n * n) (length m) && lists) n (floatsOf m)
 
 unfoldable pub plainFrom : Checked → Read → List ℕ → Listed

@@ -19,7 +19,7 @@ abbrev pub parts : Float → Float → Parts
 parts re im = record { re = re; im = im }
 
 -- a block of two stands at k: the entry just below the diagonal in column k is there and is not 0 (-0 is)
-unfoldable pub paired : ℕ → List Float → ℕ → Bool
+unfoldable pub paired : (n : ℕ) → (t : List Float) → (k : ℕ) → Bool
 paired n t k = ltb (k + 1) n && not (isZero (t ! place n (k + 1) k))
 
 -- ---- what a block answers: one real number, or a pair
@@ -28,12 +28,12 @@ paired n t k = ltb (k + 1) n && not (isZero (t ! place n (k + 1) k))
 unfoldable pub pairOf : Block → Parts
 pairOf b = parts ((b .h11 ⊕ b .h00) ⊗ half) (rootOf (neg (discriminant b)))
 
-unfoldable pub answerAt : ℕ → List Float → ℕ → BlockAnswer
+unfoldable pub answerAt : (n : ℕ) → (t : List Float) → (k : ℕ) → BlockAnswer
 answerAt n t k = cond (paired n t k) (Pair (pairOf (blockAt n k t))) (One (t ! place n k k))
 
 -- The discriminant of a block that stands at k is above 0 or NaN. It was below 0, or NaN, before T was multiplied by the largest magnitude; after that
 -- rounding may differ.
-unfoldable pub notComplex : ℕ → List Float → ℕ → Bool
+unfoldable pub notComplex : (n : ℕ) → (t : List Float) → (k : ℕ) → Bool
 notComplex n t k = paired n t k && not (le (discriminant (blockAt n k t)) zero)
 
 -- ---- the eigenvalues, one for each row
@@ -53,8 +53,8 @@ follows (One x) here = upper here
 follows (Pair p) here = lower p
 
 -- nothing stands before row 0
-unfoldable pub answerBefore : ℕ → List Float → ℕ → BlockAnswer
+unfoldable pub answerBefore : (n : ℕ) → (t : List Float) → (k : ℕ) → BlockAnswer
 answerBefore n t k = cond (eqb k 0) (One zero) (answerAt n t (k - 1))
 
-unfoldable pub eigenvalueAt : ℕ → List Float → ℕ → Parts
+unfoldable pub eigenvalueAt : (n : ℕ) → (t : List Float) → (k : ℕ) → Parts
 eigenvalueAt n t k = follows (answerBefore n t k) (answerAt n t k)

@@ -27,7 +27,7 @@ use Rattle.eigenvalues.specs.Readers.{anyPaired, diagonal, Read, read}
 
 -- ---- before the run
 
-unfoldable pub plainChecks : Bool → ℕ → List Float → Checked
+unfoldable pub plainChecks : (lengths : Bool) → (n : ℕ) → (m : List Float) → Checked
 plainChecks lengths n m =
     refuse (eqb n 0) OrderZero
     next refuse (ltb 64 n) OrderTooLarge

@@ -17,7 +17,7 @@ use Rattle.refusal.specs.Search.{firstOnDiagonal, firstNotFinite, firstSpoiling
 use Rattle.eigenvalues.specs.Blocks.{paired, notComplex, eigenvalueAt}
 
 -- what both check, in the order of document 01's table; `lengths` says whether every lent slice has its length
-unfoldable pub readable : Bool → ℕ → List Float → Checked
+unfoldable pub readable : (lengths : Bool) → (n : ℕ) → (t : List Float) → Checked
 readable lengths n t =
     refuse (eqb n 0) OrderZero
     next refuse (ltb 64 n) OrderTooLarge
@@ -31,7 +31,7 @@ readable lengths n t =
 unfoldable pub anyPaired : ℕ → List Float → Bool
 anyPaired n t = some (paired n t) 0 n
 
-unfoldable pub realChecks : Bool → ℕ → List Float → Checked
+unfoldable pub realChecks : (lengths : Bool) → (n : ℕ) → (t : List Float) → Checked
 realChecks lengths n t = readable lengths n t next refuse (anyPaired n t) ComplexEigenvalues
 
 unfoldable pub diagonal : ℕ → List Float → List Float
@@ -52,10 +52,10 @@ realRead n t values =
 
 -- ---- the complex reader
 
-unfoldable pub notFiniteAt : ℕ → List Float → ℕ → Bool
+unfoldable pub notFiniteAt : (n : ℕ) → (t : List Float) → (k : ℕ) → Bool
 notFiniteAt n t k = let e = eigenvalueAt n t k in not (isFinite (e .re) && isFinite (e .im))
 
-unfoldable pub complexChecks : Bool → ℕ → List Float → Checked
+unfoldable pub complexChecks : (lengths : Bool) → (n : ℕ) → (t : List Float) → Checked
 complexChecks lengths n t =
     readable lengths n t
     next refuseAt BlockNotComplex (firstOnDiagonal (notComplex n t) n)

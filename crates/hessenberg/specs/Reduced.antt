@@ -20,7 +20,7 @@ abbrev pub reduction : List Float → List Float → Reduction
 reduction t w = record { matrix = t; work = w }
 
 -- column k is cleared, and its norm is kept at n + k
-unfoldable pub reduceColumn : ℕ → ℕ → Reduction → Reduction
+unfoldable pub reduceColumn : (n k : ℕ) → Reduction → Reduction
 reduceColumn n k r =
     let c = clearOf n k (r .matrix) (part 0 n (r .work)) in
     reduction (c .matrix) (set (onPart (λ w. clearOf n k (r .matrix) w .work) 0 n (r .work)) (n + k) (c .norm))

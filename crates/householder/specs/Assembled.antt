@@ -20,7 +20,7 @@ unfoldable pub identity : ℕ → List Float → List Float
 identity n q = onEntries n 0 n 0 n (λ i j _. cond (eqb i j) one zero) q
 
 -- The axis of column i, used whether or not a reflection was made there, reflects the columns from i on in the rows below row i.
-unfoldable pub withAxis : ℕ → List Float → List Float → ℕ → List Float → List Float
+unfoldable pub withAxis : (n : ℕ) → (m signs : List Float) → (i : ℕ) → (q : List Float) → List Float
 withAxis n m signs i q = reflected lanes (belowRow n i m) (signumOf (signs ! i)) n (i + 1) i n q
 
 -- From the last column but one up to the first. Nothing is done where m or q is no matrix of order n, or a sign is missing.

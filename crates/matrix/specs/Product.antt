@@ -12,11 +12,11 @@ use Rattle.matrix.specs.Vectors.{eachTo}
 use Rattle.matrix.specs.Fits.{blockFits}
 
 -- row i of the columns from c0 on, as many as a is long, times a
-unfoldable pub along : List Float → ℕ → ℕ → List Float → ℕ → Float
+unfoldable pub along : (a : List Float) → (n c0 : ℕ) → (t : List Float) → (i : ℕ) → Float
 along a n c0 t i = bare (length a) (λ j. (t ! place n i (c0 + j)) ⊗ (a ! j))
 
 -- The first `rows` rows of those columns times a, put into the first places of w. What stood there is not read. Nothing is done where the
 -- rows or the columns do not lie in the matrix, or w is shorter.
-unfoldable pub mulTo : List Float → ℕ → ℕ → ℕ → List Float → List Float → List Float
+unfoldable pub mulTo : (a : List Float) → (n rows c0 : ℕ) → (t w : List Float) → List Float
 mulTo a n rows c0 t w =
     cond (blockFits n (length t) rows (c0 + length a) && leb rows (length w)) (eachTo rows (λ i _. along a n c0 t i) w) w

@@ -17,7 +17,7 @@ bare (suc zero) f = f 0
 bare (suc (suc k)) f = bare (suc k) f ⊕ f (suc k)
 
 -- accumulator l of eight after b blocks: it takes the terms l, 8 + l, 16 + l, ..
-unfoldable pub lane : (ℕ → Float) → ℕ → ℕ → Float
+unfoldable pub lane : (ℕ → Float) → (l b : ℕ) → Float
 lane f l b = times (λ k d. d ⊕ f (k * 8 + l)) b zeroF
 
 -- the eight accumulators after b blocks, added in pairs to a leading zero

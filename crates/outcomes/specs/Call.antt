@@ -44,7 +44,7 @@ answer s memory = record { says = s; memory = memory }
 
 -- ---- lent memory
 
-unfoldable pub copies : ℕ → ℕ → List ℕ
+unfoldable pub copies : (x n : ℕ) → List ℕ
 copies x n = times (λ _ l. x ∷ l) n []
 
 -- all that is lent is full of ones

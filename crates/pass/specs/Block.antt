@@ -23,7 +23,7 @@ use Rattle.pass.specs.declared.block.Basis.the-variants.{Rotate, Stand}
 use Rattle.pass.specs.Pair.{Pair, pair, onQ}
 
 -- rows (h00 h01), (h10 h11): the block of T with its upper left entry at k k
-unfoldable pub blockAt : ℕ → ℕ → List Float → Block
+unfoldable pub blockAt : (n k : ℕ) → (t : List Float) → Block
 blockAt n k t = record { h00 = t ! place n k k; h10 = t ! place n (k + 1) k; h01 = t ! place n k (k + 1); h11 = t ! place n (k + 1) (k + 1) }
 
 -- ---- its eigenvalues
@@ -56,13 +56,13 @@ basisOf b = cond (isZero (b .h10)) Stand (basisBy b (eigvalsOf b))
 
 -- the rows k and k + 1 of T by the inverse, in all columns from k to the order; then its columns k and k + 1 in the rows down to k + 1; +0 below the
 -- diagonal; and the columns of Q in all its rows
-unfoldable pub turnedBy : Bool → ℕ → ℕ → Basis → Pair → Pair
+unfoldable pub turnedBy : (wanted : Bool) → (n k : ℕ) → Basis → Pair → Pair
 turnedBy wanted n k Stand p = p
 turnedBy wanted n k (Rotate r) p =
     pair (set (rotatedRows r n k (k + 2) (rotated (inverseOf r) n k k n (p .t))) (place n (k + 1) k) zero) (onQ wanted (rotatedRows r n k n) (p .q))
 
 -- a window of two, at k: nothing is done where it is none of the matrix
-unfoldable pub splitAt : Bool → ℕ → ℕ → Pair → Pair
+unfoldable pub splitAt : (wanted : Bool) → (n k : ℕ) → Pair → Pair
 splitAt wanted n k p = cond (blockFits n (length (p .t)) (k + 2) (k + 2)) (turnedBy wanted n k (basisOf (blockAt n k (p .t))) p) p
 
 -- ---- order 2

@@ -23,7 +23,7 @@ use Rattle.pass.specs.Pair.{Pair, pair, onQ}
 
 -- The first three entries of the first column of (T - a)(T - b), where a and b are the two shifts: the eigenvalues of the window's last block
 -- of two, of which only sum and product are needed. All is read before anything is changed.
-unfoldable pub firstColumn : ℕ → ℕ → ℕ → List Float → Vector3
+unfoldable pub firstColumn : (n start end : ℕ) → (t : List Float) → Vector3
 firstColumn n s e t =
     let m = e - 1 in
     let h11 = t ! place n s s in
@@ -38,34 +38,34 @@ firstColumn n s e t =
     record { x = h11 ⊗ h11 ⊕ h12 ⊗ h21 ⊖ tra ⊗ h11 ⊕ det; y = h21 ⊗ (h11 ⊕ h22 ⊖ tra); z = h21 ⊗ h32 }
 
 -- the bulge at k: three, and at the window's end two, entries of column k - 1 from row k on
-unfoldable pub bulge : ℕ → ℕ → List Float → Vector3
+unfoldable pub bulge : (n k : ℕ) → (t : List Float) → Vector3
 bulge n k t = record { x = t ! place n k (k - 1); y = t ! place n (k + 1) (k - 1); z = t ! place n (k + 2) (k - 1) }
 
-unfoldable pub bulgeEnd : ℕ → ℕ → List Float → Vector2
+unfoldable pub bulgeEnd : (n k : ℕ) → (t : List Float) → Vector2
 bulgeEnd n k t = record { x = t ! place n k (k - 1); y = t ! place n (k + 1) (k - 1) }
 
 -- at the start the first column, past it the bulge
-unfoldable pub columnAt : Vector3 → ℕ → ℕ → ℕ → List Float → Vector3
+unfoldable pub columnAt : Vector3 → (n start k : ℕ) → (t : List Float) → Vector3
 columnAt first n s k t = cond (leb k s) first (bulge n k t)
 
 -- ---- one step of a pass
 
 -- what the reflection makes of column k - 1 is put there: the norm in row k, and +0 in the other rows that the axis, of that length, covers
-unfoldable pub swept : ℕ → ℕ → ℕ → Float → List Float → List Float
+unfoldable pub swept : (n k rows : ℕ) → (x : Float) → (t : List Float) → List Float
 swept n k rows x t = range (λ i t. set t (place n i (k - 1)) zero) (k + 1) (k + rows) (set t (place n k (k - 1)) x)
 
 -- past the first step of a pass that began at s
-unfoldable pub sweptPast : ℕ → ℕ → ℕ → ℕ → Float → List Float → List Float
+unfoldable pub sweptPast : (start n k rows : ℕ) → (x : Float) → (t : List Float) → List Float
 sweptPast s n k rows x t = cond (leb k s) t (swept n k rows x t)
 
 -- both sides by the axis a from row and column k on: the rows of T in all columns to the order, then the columns of T in its first `rows` rows;
 -- and the columns of Q in all its rows
-unfoldable pub reflectedAt : Bool → ℕ → List Float → ℕ → ℕ → Pair → Pair
+unfoldable pub reflectedAt : (wanted : Bool) → (n : ℕ) → (a : List Float) → (k rows : ℕ) → Pair → Pair
 reflectedAt wanted n a k rows p =
     pair (reflectedRows a one n rows k (reflected bare a one n k k n (p .t))) (onQ wanted (reflectedRows a one n n k) (p .q))
 
 -- The step at k by the column c. Where the axis answers that there is no reflection, nothing is done.
-unfoldable pub stepAt : Bool → ℕ → ℕ → ℕ → ℕ → List Float → Pair → Pair
+unfoldable pub stepAt : (wanted : Bool) → (n start k rows : ℕ) → (c : List Float) → Pair → Pair
 stepAt wanted n s k rows c p =
     let r = axisOf bare c in
     cond (r .reflected) (reflectedAt wanted n (r .axis) k rows (pair (sweptPast s n k (length c) (r .norm) (p .t)) (p .q))) p
@@ -73,19 +73,19 @@ stepAt wanted n s k rows c p =
 -- ---- the pass
 
 -- the step at k by three numbers: T's columns in the rows down to k + 3, or to the window's end
-unfoldable pub chased : Bool → ℕ → Vector3 → ℕ → ℕ → ℕ → Pair → Pair
+unfoldable pub chased : (wanted : Bool) → (n : ℕ) → Vector3 → (start end k : ℕ) → Pair → Pair
 chased wanted n first s e k p = stepAt wanted n s k (min (k + 4) (e + 1)) (three (columnAt first n s k (p .t))) p
 
 -- the last step, by two
-unfoldable pub closing : Bool → ℕ → ℕ → ℕ → Pair → Pair
+unfoldable pub closing : (wanted : Bool) → (n start end : ℕ) → Pair → Pair
 closing wanted n s e p = stepAt wanted n s (e - 1) (e + 1) (two (bulgeEnd n (e - 1) (p .t))) p
 
-unfoldable pub passHere : Bool → ℕ → Window → Pair → Pair
+unfoldable pub passHere : (wanted : Bool) → (n : ℕ) → Window → Pair → Pair
 passHere wanted n w p =
     let s = w .start in
     let e = w .end in
     closing wanted n s e (range (chased wanted n (firstColumn n s e (p .t)) s e) s (e - 1) p)
 
 -- the same for every window: nothing is done where it is none of three rows or more of the matrix
-unfoldable pub passOf : Bool → ℕ → Window → Pair → Pair
+unfoldable pub passOf : (wanted : Bool) → (n : ℕ) → Window → Pair → Pair
 passOf wanted n w p = cond (blockFits n (length (p .t)) (w .end + 1) (w .end + 1) && leb (w .start + 2) (w .end)) (passHere wanted n w p) p

@@ -10,7 +10,7 @@ use Rattle.record.specs.declared.reading.Filled.{Filled}
 use Rattle.record.specs.declared.reading.Filled.the-variants.{Bytes, Failed}
 
 -- `done` bytes were there before, and there was room for `room` more
-unfoldable pub afterRead : ℕ → ℕ → ℤ → Reading
+unfoldable pub afterRead : (done room : ℕ) → ℤ → Reading
 afterRead done room (negsuc k) = Broken
 afterRead done room (pos zero) = End
 afterRead done room (pos (suc k)) = More (done + min (suc k) room)

@@ -19,7 +19,7 @@ ascii (string._∷_ c s) = code c ∷ ascii s
 -- ---- numbers; `glyph` is the code of a digit and `digits b k n` the last k digits of n in base b, both of the kit's `io`
 
 -- the digits of n in base 10: the last k, or as many as there are
-unfoldable pub decimalIn : ℕ → ℕ → List ℕ
+unfoldable pub decimalIn : (zero n : ℕ) → List ℕ
 decimalIn zero n = []
 decimalIn (suc k) n = cond (ltb n 10) (glyph n ∷ []) (decimalIn k (n / 10) ++ glyph (n % 10) ∷ [])
 
@@ -47,15 +47,15 @@ unfoldable pub refusedLine : Told → List ℕ
 refusedLine x = ascii "refused" ++ number (x .number) ++ number (x .row) ++ number (x .col) ++ newline
 
 -- order N passes P
-unfoldable pub passesLine : ℕ → ℕ → List ℕ
+unfoldable pub passesLine : (n passes : ℕ) → List ℕ
 passesLine n passes = ascii "order" ++ number n ++ ascii " passes" ++ number passes ++ newline
 
 -- t ROW COL BITS, or q: what begins the line is given
-unfoldable pub entryLine : ℕ → ℕ → ℕ → ℕ → List ℕ
+unfoldable pub entryLine : (letter row col w : ℕ) → List ℕ
 entryLine letter row col w = letter ∷ [] ++ number row ++ number col ++ pattern w ++ newline
 
 -- e K BITS BITS: the real and the imaginary part of eigenvalue k
-unfoldable pub eigenvalueLine : ℕ → ℕ → ℕ → List ℕ
+unfoldable pub eigenvalueLine : (k re im : ℕ) → List ℕ
 eigenvalueLine k re im = ascii "e" ++ number k ++ pattern re ++ pattern im ++ newline
 
 -- ---- several lines
@@ -66,7 +66,7 @@ joined line zero = []
 joined line (suc n) = joined line n ++ line n
 
 -- the matrix a of order n, column by column
-unfoldable pub matrixLines : ℕ → ℕ → List Float → List ℕ
+unfoldable pub matrixLines : (letter n : ℕ) → (a : List Float) → List ℕ
 matrixLines letter n a = joined (λ k. entryLine letter (k % n) (k / n) (toBits binary64 (a ! k))) (n * n)
 
 -- the eigenvalues by their real and imaginary parts

@@ -26,7 +26,7 @@ fourPlus t p x w =
     four (w .w0 ⊕ (t ! p) ⊗ x) (w .w1 ⊕ (t ! (p + 1)) ⊗ x) (w .w2 ⊕ (t ! (p + 2)) ⊗ x) (w .w3 ⊕ (t ! (p + 3)) ⊗ x)
 
 -- the rows from i to i + 3 times a
-unfoldable pub fourAlong : List Float → ℕ → ℕ → List Float → ℕ → Four
+unfoldable pub fourAlong : (a : List Float) → (n c0 : ℕ) → (t : List Float) → (i : ℕ) → Four
 fourAlong a n c0 t i = four (along a n c0 t i) (along a n c0 t (i + 1)) (along a n c0 t (i + 2)) (along a n c0 t (i + 3))
 
 -- the four numbers of t from p on: f times the row's sum, plus s times what stands
@@ -41,7 +41,7 @@ eightTimes t p x = record { upper = fourTimes t p x; lower = fourTimes t (p + 4)
 abbrev pub eightPlus : List Float → ℕ → Float → Eight → Eight
 eightPlus t p x w = record { upper = fourPlus t p x (w .upper); lower = fourPlus t (p + 4) x (w .lower) }
 
-abbrev pub eightAlong : List Float → ℕ → ℕ → List Float → ℕ → Eight
+abbrev pub eightAlong : (a : List Float) → (n c0 : ℕ) → (t : List Float) → (i : ℕ) → Eight
 eightAlong a n c0 t i = record { upper = fourAlong a n c0 t i; lower = fourAlong a n c0 t (i + 4) }
 
 abbrev pub eightPut : Float → Eight → Float → ℕ → List Float → List Float

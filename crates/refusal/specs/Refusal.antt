@@ -10,7 +10,7 @@ use Rattle.refusal.specs.declared.refusal.Checked.the-variants.{Passed, 
 use Rattle.refusal.specs.declared.search.Search.{Search}
 use Rattle.refusal.specs.declared.search.Search.the-variants.{At, Nowhere}
 
-abbrev pub at : ℕ → ℕ → Place
+abbrev pub at : (row col : ℕ) → Place
 at row col = record { row = row; col = col }
 
 abbrev pub withPlace : ℕ → Place → Told

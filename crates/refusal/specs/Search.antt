@@ -17,7 +17,7 @@ use Rattle.refusal.specs.Refusal.{at}
 -- ---- a search of a matrix of order n for a place that a test names, told its row and column
 
 -- the first row of column j, or n
-unfoldable pub firstRow : (ℕ → ℕ → Bool) → ℕ → ℕ → ℕ
+unfoldable pub firstRow : (ℕ → ℕ → Bool) → (n j : ℕ) → ℕ
 firstRow test n j = first (λ i. test i j) n
 
 -- the first column with such a row, or n
@@ -34,12 +34,12 @@ firstOnDiagonal test n = let k = first test n in cond (ltb k n) (At (at k k)) No
 -- ---- what is looked for; in a list of another length nothing is found
 
 -- NaN or infinite
-unfoldable pub notFinite : ℕ → List Float → ℕ → ℕ → Bool
+unfoldable pub notFinite : (n : ℕ) → (t : List Float) → (i j : ℕ) → Bool
 notFinite n t i j = not (isFinite (t ! place n i j))
 
 -- An entry spoils the shape if it is nonzero and two or more rows below the diagonal, or if it stands just below the diagonal, is nonzero, and so is
 -- the one just below the diagonal in the column before.
-unfoldable pub spoils : ℕ → List Float → ℕ → ℕ → Bool
+unfoldable pub spoils : (n : ℕ) → (t : List Float) → (i j : ℕ) → Bool
 spoils n t i j =
     not (isZero (t ! place n i j)) && (leb (j + 2) i || (eqb i (j + 1) && (leb 1 j && not (isZero (t ! place n j (j - 1))))))
 

@@ -5,7 +5,7 @@ use Prim.Native.Nat.{ℕ, _+_, _-_, _*_, _/_, _%_, _^_, _≤_, _<_}
 use lib.Dec.{ltb}
 
 -- the number that two words hold
-abbrev pub valueOf : ℕ → ℕ → ℕ
+abbrev pub valueOf : (hi lo : ℕ) → ℕ
 valueOf hi lo = hi * 2 ^ 64 + lo
 
 -- the number of smallest values, 2 ^ -1074, that the positive finite pattern w stands for

@@ -38,7 +38,7 @@ unfoldable pub closed : Running → Bool
 closed r = eqb (r .state .window .start) (r .state .window .end)
 
 -- delimiting from e, with so many passes counted
-unfoldable pub after : ℕ → Float → ℕ → ℕ → Pair → Running
+unfoldable pub after : (n : ℕ) → (eps : Float) → (end passes : ℕ) → Pair → Running
 after n eps e passes p =
     let d = delimitOf n eps e (p .t) in
     running (state (d .window) passes) (pair (d .t) (p .q))
@@ -46,21 +46,21 @@ after n eps e passes p =
 -- ---- one turn over an open window
 
 -- A window of two: split. Then the end falls by 2 and the pass counts; if the end is 2 or less the run ends here, uncounted.
-unfoldable pub turnTwo : Bool → ℕ → Float → State → Pair → Running
+unfoldable pub turnTwo : (wanted : Bool) → (n : ℕ) → (eps : Float) → State → Pair → Running
 turnTwo wanted n eps s p =
     cond (leb (s .window .end) 2) (running (state (window 0 0) (s .passes)) (splitAt wanted n (s .window .start) p))
     (after n eps (s .window .end - 2) (s .passes + 1) (splitAt wanted n (s .window .start) p))
 
 -- A window of three or more: one double-shift pass, which counts.
-unfoldable pub turnMore : Bool → ℕ → Float → State → Pair → Running
+unfoldable pub turnMore : (wanted : Bool) → (n : ℕ) → (eps : Float) → State → Pair → Running
 turnMore wanted n eps s p = after n eps (s .window .end) (s .passes + 1) (passOf wanted n (s .window) p)
 
-unfoldable pub turnOf : Bool → ℕ → Float → Running → Running
+unfoldable pub turnOf : (wanted : Bool) → (n : ℕ) → (eps : Float) → Running → Running
 turnOf wanted n eps r =
     cond (leb (r .state .window .end) (r .state .window .start + 1)) (turnTwo wanted n eps (r .state) (r .pair)) (turnMore wanted n eps (r .state) (r .pair))
 
 -- at most `budget` turns
-unfoldable pub runFrom : Bool → ℕ → Float → ℕ → Running → Running
+unfoldable pub runFrom : (wanted : Bool) → (n : ℕ) → (eps : Float) → (budget : ℕ) → Running → Running
 runFrom wanted n eps budget r = until closed (turnOf wanted n eps) budget r
 
 -- ---- order 3 and up
@@ -70,13 +70,13 @@ unfoldable pub scaledDown : List Float → List Float
 scaledDown t = cond (isZero (largest t)) t (unscaled (largest t) t)
 
 -- reduced by way of the workspace: H, and Q where it is wanted
-unfoldable pub reducedPair : Bool → ℕ → List Float → Pair → Pair
+unfoldable pub reducedPair : (wanted : Bool) → (n : ℕ) → (w : List Float) → Pair → Pair
 reducedPair wanted n w p =
     let r = reduced n (p .t) w in
     pair (unpackedH n (r .work) (r .matrix)) (onQ wanted (unpackedQ n (r .matrix) (r .work)) (p .q))
 
 -- scaled down, reduced, delimited: no pass is counted yet
-unfoldable pub opened : Bool → ℕ → Float → List Float → Pair → Running
+unfoldable pub opened : (wanted : Bool) → (n : ℕ) → (eps : Float) → (w : List Float) → Pair → Running
 opened wanted n eps w p = after n eps (n - 1) 0 (reducedPair wanted n w (pair (scaledDown (p .t)) (p .q)))
 
 -- what a run answers, and what it leaves in T and Q
@@ -96,23 +96,23 @@ answered budget amax r =
 -- ---- every order
 
 -- T has order n, from 1 to 64, Q has it too if it is wanted, and the workspace has 2n numbers, by their lengths
-unfoldable pub runFits : Bool → ℕ → ℕ → ℕ → ℕ → Bool
+unfoldable pub runFits : (wanted : Bool) → (n tn qn wn : ℕ) → Bool
 runFits wanted n tn qn wn = leb 1 n && (blockFits n tn n n && ((not wanted || eqb qn (n * n)) && eqb wn (2 * n)))
 
 -- order 1: T is the matrix, Q is 1
-unfoldable pub ranOf : Bool → ℕ → Float → ℕ → Pair → List Float → Left
+unfoldable pub ranOf : (wanted : Bool) → (n : ℕ) → (eps : Float) → (budget : ℕ) → Pair → (w : List Float) → Left
 ranOf wanted n eps budget p w =
     cond (eqb n 1) (left (Ended 0) (pair (p .t) (onQ wanted (filled one) (p .q))))
     (cond (eqb n 2) (left (Ended 0) (orderTwo wanted p)) (answered budget (largest (p .t)) (runFrom wanted n eps budget (opened wanted n eps w p))))
 
 -- the counted passes of that run: none at orders 1 and 2
-unfoldable pub countOf : Bool → ℕ → Float → ℕ → Pair → List Float → ℕ
+unfoldable pub countOf : (wanted : Bool) → (n : ℕ) → (eps : Float) → (budget : ℕ) → Pair → (w : List Float) → ℕ
 countOf wanted n eps budget p w = cond (eqb n 1) 0 (cond (eqb n 2) 0 (runFrom wanted n eps budget (opened wanted n eps w p) .state .passes))
 
 -- where something does not fit nothing is done
-unfoldable pub runOf : Bool → ℕ → Float → ℕ → Pair → List Float → Left
+unfoldable pub runOf : (wanted : Bool) → (n : ℕ) → (eps : Float) → (budget : ℕ) → Pair → (w : List Float) → Left
 runOf wanted n eps budget p w = cond (runFits wanted n (length (p .t)) (length (p .q)) (length w)) (ranOf wanted n eps budget p w) (left Unfit p)
 
 -- the workspace afterwards: +0 throughout, unless nothing is done
-unfoldable pub workAfter : Bool → ℕ → Pair → List Float → List Float
+unfoldable pub workAfter : (wanted : Bool) → (n : ℕ) → Pair → (w : List Float) → List Float
 workAfter wanted n p w = cond (runFits wanted n (length (p .t)) (length (p .q)) (length w)) (filled zero w) w

@@ -30,14 +30,14 @@ tooSmall c = isTooSmall (wayOf bare c)
 -- ---- a pass over the window w, of three rows or more
 
 -- T and Q before its step at k
-unfoldable pub passTo : Bool → ℕ → Window → Pair → ℕ → Pair
+unfoldable pub passTo : (wanted : Bool) → (n : ℕ) → Window → Pair → (k : ℕ) → Pair
 passTo wanted n w p k =
     let s = w .start in
     let e = w .end in
     range (chased wanted n (firstColumn n s e (p .t)) s e) s k p
 
 -- the column whose axis that step uses: three numbers, and two at the last step
-unfoldable pub axisColumn : Bool → ℕ → Window → Pair → ℕ → List Float
+unfoldable pub axisColumn : (wanted : Bool) → (n : ℕ) → Window → Pair → (k : ℕ) → List Float
 axisColumn wanted n w p k =
     let s = w .start in
     let e = w .end in
@@ -45,19 +45,19 @@ axisColumn wanted n w p k =
     cond (eqb k (e - 1)) (two (bulgeEnd n k t)) (three (columnAt (firstColumn n s e (p .t)) n s k t))
 
 -- in some step, from the window's start to the row above its end
-unfoldable pub passVanished : Bool → ℕ → Window → Pair → Bool
+unfoldable pub passVanished : (wanted : Bool) → (n : ℕ) → Window → Pair → Bool
 passVanished wanted n w p = some (λ k. tooSmall (axisColumn wanted n w p k)) (w .start) (w .end)
 
 -- ---- a run
 
 -- in the turn from a state: a window of two or less has no pass
-unfoldable pub turnVanished : Bool → ℕ → Running → Bool
+unfoldable pub turnVanished : (wanted : Bool) → (n : ℕ) → Running → Bool
 turnVanished wanted n r = not (leb (r .state .window .end) (r .state .window .start + 1)) && passVanished wanted n (r .state .window) (r .pair)
 
 -- in some turn from r on, at most `budget` of them
-unfoldable pub runVanished : Bool → ℕ → Float → ℕ → Running → Bool
+unfoldable pub runVanished : (wanted : Bool) → (n : ℕ) → (eps : Float) → (budget : ℕ) → Running → Bool
 runVanished wanted n eps budget r = some (λ m. turnVanished wanted n (runFrom wanted n eps m r)) 0 budget
 
 -- orders 1 and 2 have no pass
-unfoldable pub vanished : Bool → ℕ → Float → ℕ → Pair → List Float → Bool
+unfoldable pub vanished : (wanted : Bool) → (n : ℕ) → (eps : Float) → (budget : ℕ) → Pair → (w : List Float) → Bool
 vanished wanted n eps budget p w = leb 3 n && runVanished wanted n eps budget (opened wanted n eps w p)

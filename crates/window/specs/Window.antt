@@ -15,18 +15,18 @@ use Rattle.scalar.specs.Sign.{modulusOf}
 use Rattle.matrix.specs.Fits.{blockFits}
 use Rattle.window.specs.declared.Window.{Window}
 
-abbrev pub window : ℕ → ℕ → Window
+abbrev pub window : (start end : ℕ) → Window
 window s e = record { start = s; end = e }
 
 -- the entry just below the diagonal in row i, and +0 put there
-abbrev pub below : ℕ → ℕ → List Float → Float
+abbrev pub below : (n i : ℕ) → (t : List Float) → Float
 below n i t = t ! place n i (i - 1)
 
-abbrev pub decoupled : ℕ → ℕ → List Float → List Float
+abbrev pub decoupled : (n i : ℕ) → (t : List Float) → List Float
 decoupled n i t = set t (place n i (i - 1)) zero
 
 -- its magnitude is at most eps * eps, or at most eps times the sum of its two diagonal neighbours' magnitudes
-unfoldable pub small : ℕ → Float → List Float → ℕ → Bool
+unfoldable pub small : (n : ℕ) → (eps : Float) → (t : List Float) → (i : ℕ) → Bool
 small n eps t i =
     let off = modulusOf (below n i t) in
     le off (eps ⊗ eps) || le off (eps ⊗ (modulusOf (t ! place n i i) ⊕ modulusOf (t ! place n (i - 1) (i - 1))))
@@ -48,15 +48,15 @@ unfoldable pub fall : ℕ → Falling → Falling
 fall n f = falling (f .end - 1) (decoupled n (f .end) (f .t))
 
 -- row 0 has no entry below the diagonal: there the end stays
-unfoldable pub endFrom : ℕ → Float → ℕ → List Float → Falling
+unfoldable pub endFrom : (n : ℕ) → (eps : Float) → (end : ℕ) → (t : List Float) → Falling
 endFrom n eps e t = until (stands n eps) (fall n) e (falling e t)
 
 -- ---- the start: from the row above the end upward, to the first entry that is zero or small
 
-unfoldable pub cut : ℕ → Float → List Float → ℕ → Bool
+unfoldable pub cut : (n : ℕ) → (eps : Float) → (t : List Float) → (i : ℕ) → Bool
 cut n eps t i = isZero (below n i t) || small n eps t i
 
-unfoldable pub startFrom : ℕ → Float → ℕ → List Float → ℕ
+unfoldable pub startFrom : (n : ℕ) → (eps : Float) → (end : ℕ) → (t : List Float) → ℕ
 startFrom n eps e t = until (cut n eps t) (λ i. i - 1) (e - 1) (e - 1)
 
 -- ---- both
@@ -70,12 +70,12 @@ abbrev pub delimited : Window → List Float → Delimited
 delimited w t = record { window = w; t = t }
 
 -- What cuts the window off at its start becomes +0 too. A window that has closed is 0 0.
-unfoldable pub delimitHere : ℕ → Float → ℕ → List Float → Delimited
+unfoldable pub delimitHere : (n : ℕ) → (eps : Float) → (end : ℕ) → (t : List Float) → Delimited
 delimitHere n eps e t =
     let f = endFrom n eps e t in
     let s = startFrom n eps (f .end) (f .t) in
     delimited (window s (f .end)) (cond (eqb s 0) (f .t) (decoupled n s (f .t)))
 
 -- the same for every e: where T has no row e nothing is done, and the window is closed
-unfoldable pub delimitOf : ℕ → Float → ℕ → List Float → Delimited
+unfoldable pub delimitOf : (n : ℕ) → (eps : Float) → (end : ℕ) → (t : List Float) → Delimited
 delimitOf n eps e t = cond (blockFits n (length t) (e + 1) (e + 1)) (delimitHere n eps e t) (delimited (window 0 0) t)

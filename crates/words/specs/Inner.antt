@@ -6,5 +6,5 @@ use Rattle.loops.specs.Times.{times}
 use Rattle.words.specs.Words.{byteOf}
 
 -- s with w's eight bytes from `at` on
-unfoldable pub put64 : List ℕ → ℕ → ℕ → List ℕ
+unfoldable pub put64 : (s : List ℕ) → (at w : ℕ) → List ℕ
 put64 s at w = times (λ k t. set t (at + k) (byteOf w k)) 8 s

@@ -16,5 +16,5 @@ le64 s at =
     + getD s (at + 7) 0 * 72057594037927936
 
 -- byte k of the number w
-unfoldable pub byteOf : ℕ → ℕ → ℕ
+unfoldable pub byteOf : (w k : ℕ) → ℕ
 byteOf w k = w / 256 ^ k % 256
