@@ -1,7 +1,6 @@
--- A block's eigenvalues, its rotation and what that does, told of what a routine has in hand. Assumes nothing.
+-- A block's eigenvalues and its rotation, told of what a routine has in hand. Assumes nothing.
 use mathlib.Core.Path.{_≡_, sym, ap, _∙_}
 use mathlib.Core.Bool.{Bool, true, false, cond}
-use Prim.Native.Nat.{ℕ}
 use lib.Ieee.{lt, le}
 use Rattle.loops.specs.Constants.{zero, half}
 use Rattle.loops.specs.Rounded.{_⊕_, _⊖_, _⊗_}
@@ -15,8 +14,7 @@ use Rattle.pass.specs.declared.block.Eigvals.{Eigvals}
 use Rattle.pass.specs.declared.block.Eigvals.the-variants.{Real, NotReal}
 use Rattle.pass.specs.declared.block.Basis.{Basis}
 use Rattle.pass.specs.declared.block.Basis.the-variants.{Rotate, Stand}
-use Rattle.pass.specs.Pair.{Pair}
-use Rattle.pass.specs.Block.{blockAt, discriminant, eigvalsOf, basisBy, basisOf, turnedBy}
+use Rattle.pass.specs.Block.{discriminant, eigvalsOf, basisBy, basisOf}
 
 -- ---- the eigenvalues
 
@@ -48,10 +46,3 @@ pub basis-made : (b : Block) (v : Values) (d : Bool) → isZero (b .h10) ≡ fal
     → Rotate (newOf (cond d (v .first ⊖ b .h11) (v .second ⊖ b .h11)) (b .h10) .rotation) ≡ basisOf b
 unfolding basisBy
 basis-made b v d h k l = sym (basis-by b (Real v) h k ∙ ap (λ d. Rotate (newOf (cond d (v .first ⊖ b .h11) (v .second ⊖ b .h11)) (b .h10) .rotation)) l)
-
--- ---- what it does
-
--- x is what T and Q become by the rotation b of the block m
-pub turned-by : {x : Pair} {b : Basis} {m : Block} (wanted : Bool) (n k : ℕ) (p : Pair) → x ≡ turnedBy wanted n k b p → b ≡ basisOf m → m ≡ blockAt n k (p .t)
-    → x ≡ turnedBy wanted n k (basisOf (blockAt n k (p .t))) p
-turned-by wanted n k p e f g = e ∙ ap (λ b. turnedBy wanted n k b p) (f ∙ ap basisOf g)

@@ -1,5 +1,5 @@
 -- T takes no notice of Q: from one T, whatever stands in Q and whether it is wanted, each step makes one T. Assumes nothing.
-use Prim.Native.Nat.{ℕ, _+_, _-_, min}
+use Prim.Native.Nat.{ℕ, _+_, _-_}
 use mathlib.Core.Bool.{Bool, true, false, cond, _&&_}
 use mathlib.Core.Path.{_≡_, ap, _∙_}
 use mathlib.Core.List.{List}
@@ -13,76 +13,78 @@ use Rattle.matrix.specs.Vectors.{two, three}
 use Rattle.matrix.specs.declared.vector.Vector3.{Vector3}
 use Rattle.householder.specs.Axis.{axisOf}
 use Rattle.window.specs.declared.Window.{Window}
-use Rattle.pass.specs.declared.block.Basis.{Basis}
-use Rattle.pass.specs.declared.block.Basis.the-variants.{Rotate, Stand}
+use Rattle.pass.specs.declared.setting.Setting.{Setting}
+use Rattle.pass.specs.Setting.{wanting}
 use Rattle.pass.specs.Pair.{Pair, pair, onQ}
-use Rattle.pass.specs.Pass.{firstColumn, bulgeEnd, columnAt, sweptPast, reflectedAt, stepAt, chased, closing, passHere, passOf}
-use Rattle.pass.specs.Block.{blockAt, basisOf, turnedBy, splitAt, columnsIn, orderTwo}
+use Rattle.pass.specs.Pass.{firstColumn, bulgeEnd, columnAt, sweptPast, reflectedAt, rowsAt, stepAt, chased, closing, passHere, passOf}
+use Rattle.pass.specs.Block.{blockAt, basisOf, turnedT, turnedQ, splitAt, columnsIn, orderTwo}
+
+-- In all that follows one setting is asked for, but that Q is wanted as b says, or as d does.
 
 -- both answers of a test have one T in either pair
 either : (x p y r : Pair) (b : Bool) → x .t ≡ y .t → p .t ≡ r .t → cond b x p .t ≡ cond b y r .t
 either x p y r true h k = h
 either x p y r false h k = k
 
-reflectedAt-t : (b d : Bool) (n : ℕ) (a : List Float) (k rows : ℕ) (p r : Pair) → p .t ≡ r .t → reflectedAt b n a k rows p .t ≡ reflectedAt d n a k rows r .t
+reflectedAt-t : (b d : Bool) (asked : Setting) (k rows : ℕ) (a : List Float) (p r : Pair) → p .t ≡ r .t
+    → reflectedAt (wanting b asked) k rows a p .t ≡ reflectedAt (wanting d asked) k rows a r .t
 unfolding reflectedAt
-reflectedAt-t b d n a k rows p r h = ap (λ t. reflectedAt d n a k rows (pair t (r .q)) .t) h
+reflectedAt-t b d asked k rows a p r h = ap (λ t. reflectedAt asked k rows a (pair t (r .q)) .t) h
 
-stepAt-t : (b d : Bool) (n s k rows : ℕ) (c : List Float) (p r : Pair) → p .t ≡ r .t → stepAt b n s k rows c p .t ≡ stepAt d n s k rows c r .t
+stepAt-t : (b d : Bool) (asked : Setting) (w : Window) (k : ℕ) (c : List Float) (p r : Pair) → p .t ≡ r .t
+    → stepAt (wanting b asked) w k c p .t ≡ stepAt (wanting d asked) w k c r .t
 unfolding stepAt
-stepAt-t b d n s k rows c p r h = go (axisOf bare c .reflected)
-  where
-    go : (x : Bool)
-        → cond x (reflectedAt b n (axisOf bare c .axis) k rows (pair (sweptPast s n k (length c) (axisOf bare c .norm) (p .t)) (p .q))) p .t
-        ≡ cond x (reflectedAt d n (axisOf bare c .axis) k rows (pair (sweptPast s n k (length c) (axisOf bare c .norm) (r .t)) (r .q))) r .t
-    go true = reflectedAt-t b d n _ k rows _ _ (ap (sweptPast s n k (length c) (axisOf bare c .norm)) h)
-    go false = h
+stepAt-t b d asked w k c p r h =
+    let x = axisOf bare c in
+    let there : Pair → Pair = λ p. pair (sweptPast (asked .order) (w .start) k (length c) (x .norm) (p .t)) (p .q) in
+    let rows = rowsAt k (w .end) in
+    either (reflectedAt (wanting b asked) k rows (x .axis) (there p)) p (reflectedAt (wanting d asked) k rows (x .axis) (there r)) r (x .reflected)
+    (reflectedAt-t b d asked k rows (x .axis) (there p) (there r) (ap (sweptPast (asked .order) (w .start) k (length c) (x .norm)) h)) h
 
-chased-t : (b d : Bool) (n : ℕ) (first : Vector3) (s e k : ℕ) (p r : Pair) → p .t ≡ r .t → chased b n first s e k p .t ≡ chased d n first s e k r .t
+chased-t : (b d : Bool) (asked : Setting) (w : Window) (first : Vector3) (k : ℕ) (p r : Pair) → p .t ≡ r .t
+    → chased (wanting b asked) w first k p .t ≡ chased (wanting d asked) w first k r .t
 unfolding chased
-chased-t b d n first s e k p r h =
-    stepAt-t b d n s k (min (k + 4) (e + 1)) (three (columnAt first n s k (p .t))) p r h
-    ∙ ap (λ t. stepAt d n s k (min (k + 4) (e + 1)) (three (columnAt first n s k t)) r .t) h
+chased-t b d asked w first k p r h =
+    let column : List Float → List Float = λ t. three (columnAt (asked .order) (w .start) k first t) in
+    stepAt-t b d asked w k (column (p .t)) p r h ∙ ap (λ t. stepAt (wanting d asked) w k (column t) r .t) h
 
-closing-t : (b d : Bool) (n s e : ℕ) (p r : Pair) → p .t ≡ r .t → closing b n s e p .t ≡ closing d n s e r .t
+closing-t : (b d : Bool) (asked : Setting) (w : Window) (p r : Pair) → p .t ≡ r .t → closing (wanting b asked) w p .t ≡ closing (wanting d asked) w r .t
 unfolding closing
-closing-t b d n s e p r h =
-    stepAt-t b d n s (e - 1) (e + 1) (two (bulgeEnd n (e - 1) (p .t))) p r h
-    ∙ ap (λ t. stepAt d n s (e - 1) (e + 1) (two (bulgeEnd n (e - 1) t)) r .t) h
+closing-t b d asked w p r h =
+    let k = w .end - 1 in
+    stepAt-t b d asked w k (two (bulgeEnd (asked .order) k (p .t))) p r h ∙ ap (λ t. stepAt (wanting d asked) w k (two (bulgeEnd (asked .order) k t)) r .t) h
 
-passHere-t : (b d : Bool) (n : ℕ) (w : Window) (p r : Pair) → p .t ≡ r .t → passHere b n w p .t ≡ passHere d n w r .t
+passHere-t : (b d : Bool) (asked : Setting) (w : Window) (p r : Pair) → p .t ≡ r .t → passHere (wanting b asked) w p .t ≡ passHere (wanting d asked) w r .t
 unfolding passHere
-passHere-t b d n w p r h =
+passHere-t b d asked w p r h =
     let s = w .start in
     let e = w .end in
-    let first = firstColumn n s e (p .t) in
-    let swept = range-both (λ x y. x .t ≡ y .t) (chased b n first s e) (chased d n first s e) s (e - 1) p r (λ k x y. chased-t b d n first s e k x y) h in
-    closing-t b d n s e (range (chased b n first s e) s (e - 1) p) (range (chased d n first s e) s (e - 1) r) swept
-    ∙ ap (λ t. closing d n s e (range (chased d n (firstColumn n s e t) s e) s (e - 1) r) .t) h
+    let first : List Float → Vector3 = firstColumn (asked .order) s e in
+    let steps : Bool → List Float → ℕ → Pair → Pair = λ wanted t. chased (wanting wanted asked) w (first t) in
+    let swept = range-both (λ x y. x .t ≡ y .t) (steps b (p .t)) (steps d (p .t)) s (e - 1) p r (λ k x y. chased-t b d asked w (first (p .t)) k x y) h in
+    closing-t b d asked w (range (steps b (p .t)) s (e - 1) p) (range (steps d (p .t)) s (e - 1) r) swept
+    ∙ ap (λ t. closing (wanting d asked) w (range (steps d t) s (e - 1) r) .t) h
 
-pub passOf-t : (b d : Bool) (n : ℕ) (w : Window) (p r : Pair) → p .t ≡ r .t → passOf b n w p .t ≡ passOf d n w r .t
+pub passOf-t : (b d : Bool) (asked : Setting) (w : Window) (p r : Pair) → p .t ≡ r .t → passOf (wanting b asked) w p .t ≡ passOf (wanting d asked) w r .t
 unfolding passOf
-passOf-t b d n w p r h =
-    let fits : List Float → Bool = λ t. blockFits n (length t) (w .end + 1) (w .end + 1) && leb (w .start + 2) (w .end) in
-    either (passHere b n w p) p (passHere d n w r) r (fits (p .t)) (passHere-t b d n w p r h) h ∙ ap (λ t. cond (fits t) (passHere d n w r) r .t) h
+passOf-t b d asked w p r h =
+    let fits : List Float → Bool = λ t. blockFits (asked .order) (length t) (w .end + 1) (w .end + 1) && leb (w .start + 2) (w .end) in
+    let there = passHere (wanting d asked) w r in
+    either (passHere (wanting b asked) w p) p there r (fits (p .t)) (passHere-t b d asked w p r h) h ∙ ap (λ t. cond (fits t) there r .t) h
 
-turnedBy-t : (b d : Bool) (n k : ℕ) (x : Basis) (p r : Pair) → p .t ≡ r .t → turnedBy b n k x p .t ≡ turnedBy d n k x r .t
-unfolding turnedBy
-turnedBy-t b d n k Stand p r h = h
-turnedBy-t b d n k (Rotate x) p r h = ap (λ t. turnedBy d n k (Rotate x) (pair t (r .q)) .t) h
-
-pub splitAt-t : (b d : Bool) (n k : ℕ) (p r : Pair) → p .t ≡ r .t → splitAt b n k p .t ≡ splitAt d n k r .t
+pub splitAt-t : (b d : Bool) (asked : Setting) (k : ℕ) (p r : Pair) → p .t ≡ r .t → splitAt (wanting b asked) k p .t ≡ splitAt (wanting d asked) k r .t
 unfolding splitAt
-splitAt-t b d n k p r h =
-    let turned = turnedBy-t b d n k (basisOf (blockAt n k (p .t))) p r h ∙ ap (λ t. turnedBy d n k (basisOf (blockAt n k t)) r .t) h in
-    either (turnedBy b n k (basisOf (blockAt n k (p .t))) p) p (turnedBy d n k (basisOf (blockAt n k (r .t))) r) r (blockFits n (length (p .t)) (k + 2) (k + 2)) turned h
-    ∙ ap (λ t. cond (blockFits n (length t) (k + 2) (k + 2)) (turnedBy d n k (basisOf (blockAt n k (r .t))) r) r .t) h
+splitAt-t b d asked k p r h =
+    let n = asked .order in
+    let turned : Bool → Pair → Pair = λ wanted p.
+        (let x = basisOf (blockAt n k (p .t)) in pair (turnedT n k x (p .t)) (onQ wanted (turnedQ n k x) (p .q))) in
+    either (turned b p) p (turned d r) r (blockFits n (length (p .t)) (k + 2) (k + 2)) (ap (λ t. turnedT n k (basisOf (blockAt n k t)) t) h) h
+    ∙ ap (λ t. cond (blockFits n (length t) (k + 2) (k + 2)) (turned d r) r .t) h
 
-pub orderTwo-t : (b d : Bool) (p r : Pair) → p .t ≡ r .t → orderTwo b p .t ≡ orderTwo d r .t
+pub orderTwo-t : (b d : Bool) (asked : Setting) (p r : Pair) → p .t ≡ r .t → orderTwo (wanting b asked) p .t ≡ orderTwo (wanting d asked) r .t
 unfolding orderTwo
-orderTwo-t b d p r h =
-    let x = basisOf (blockAt 2 0 (p .t)) in
-    let y = basisOf (blockAt 2 0 (r .t)) in
-    let turned = turnedBy-t false false 2 0 x p r h ∙ ap (λ t. turnedBy false 2 0 (basisOf (blockAt 2 0 t)) r .t) h in
-    let made : Basis → Bool → Pair → Pair = λ z wanted s. pair (turnedBy false 2 0 z s .t) (onQ wanted (columnsIn z) (s .q)) in
-    either (made x b p) p (made y d r) r (eqb (length (p .t)) 4) turned h ∙ ap (λ t. cond (eqb (length t) 4) (made y d r) r .t) h
+orderTwo-t b d asked p r h =
+    let made : Bool → Pair → Pair = λ wanted p.
+        (let x = basisOf (blockAt 2 0 (p .t)) in pair (turnedT 2 0 x (p .t)) (onQ wanted (columnsIn x) (p .q))) in
+    either (made b p) p (made d r) r (eqb (length (p .t)) 4) (ap (λ t. turnedT 2 0 (basisOf (blockAt 2 0 t)) t) h) h
+    ∙ ap (λ t. cond (eqb (length t) 4) (made d r) r .t) h

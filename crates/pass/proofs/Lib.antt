@@ -5,4 +5,5 @@ pub mod BlockFrames
 pub mod Swept
 pub mod Lengths
 mod BlockWays
+mod Stepping
 mod Fitted

@@ -1,7 +1,7 @@
 -- A block of two rows and columns: its eigenvalues, the rotation that makes it triangular, and what that does to T and Q
 -- (document 01, steps 1, 3 and 6; docs/SUMS.md, 7.2 to 7.4 and 7.8).
 use Prim.Native.Nat.{ℕ, _+_}
-use mathlib.Core.Bool.{Bool, false, cond}
+use mathlib.Core.Bool.{cond}
 use mathlib.Core.List.{List, [], _∷_}
 use lib.Dec.{eqb}
 use lib.ListN.{length, set}
@@ -20,6 +20,7 @@ use Rattle.pass.specs.declared.block.Eigvals.{Eigvals}
 use Rattle.pass.specs.declared.block.Eigvals.the-variants.{Real, NotReal}
 use Rattle.pass.specs.declared.block.Basis.{Basis}
 use Rattle.pass.specs.declared.block.Basis.the-variants.{Rotate, Stand}
+use Rattle.pass.specs.declared.setting.Setting.{Setting}
 use Rattle.pass.specs.Pair.{Pair, pair, onQ}
 
 -- rows (h00 h01), (h10 h11): the block of T with its upper left entry at k k
@@ -55,15 +56,22 @@ basisOf b = cond (isZero (b .h10)) Stand (basisBy b (eigvalsOf b))
 -- ---- what it does
 
 -- the rows k and k + 1 of T by the inverse, in all columns from k to the order; then its columns k and k + 1 in the rows down to k + 1; +0 below the
--- diagonal; and the columns of Q in all its rows
-unfoldable pub turnedBy : (wanted : Bool) → (n k : ℕ) → Basis → Pair → Pair
-turnedBy wanted n k Stand p = p
-turnedBy wanted n k (Rotate r) p =
-    pair (set (rotatedRows r n k (k + 2) (rotated (inverseOf r) n k k n (p .t))) (place n (k + 1) k) zero) (onQ wanted (rotatedRows r n k n) (p .q))
+-- diagonal
+unfoldable pub turnedT : (n k : ℕ) → Basis → (t : List Float) → List Float
+turnedT n k Stand t = t
+turnedT n k (Rotate r) t = set (rotatedRows r n k (k + 2) (rotated (inverseOf r) n k k n t)) (place n (k + 1) k) zero
+
+-- the columns k and k + 1 of Q in all its rows
+unfoldable pub turnedQ : (n k : ℕ) → Basis → (q : List Float) → List Float
+turnedQ n k Stand q = q
+turnedQ n k (Rotate r) q = rotatedRows r n k n q
 
 -- a window of two, at k: nothing is done where it is none of the matrix
-unfoldable pub splitAt : (wanted : Bool) → (n k : ℕ) → Pair → Pair
-splitAt wanted n k p = cond (blockFits n (length (p .t)) (k + 2) (k + 2)) (turnedBy wanted n k (basisOf (blockAt n k (p .t))) p) p
+unfoldable pub splitAt : Setting → (k : ℕ) → Pair → Pair
+splitAt asked k p =
+    let n = asked .order in
+    let b = basisOf (blockAt n k (p .t)) in
+    cond (blockFits n (length (p .t)) (k + 2) (k + 2)) (pair (turnedT n k b (p .t)) (onQ (asked .wanted) (turnedQ n k b) (p .q))) p
 
 -- ---- order 2
 
@@ -77,7 +85,7 @@ unfoldable pub columnsIn : Basis → List Float → List Float
 columnsIn b q = cond (eqb (length q) 4) (columnsOf b) q
 
 -- no scaling and no pass; nothing is done where T has another order
-unfoldable pub orderTwo : Bool → Pair → Pair
-orderTwo wanted p =
+unfoldable pub orderTwo : Setting → Pair → Pair
+orderTwo asked p =
     let b = basisOf (blockAt 2 0 (p .t)) in
-    cond (eqb (length (p .t)) 4) (pair (turnedBy false 2 0 b p .t) (onQ wanted (columnsIn b) (p .q))) p
+    cond (eqb (length (p .t)) 4) (pair (turnedT 2 0 b (p .t)) (onQ (asked .wanted) (columnsIn b) (p .q))) p

@@ -1,6 +1,6 @@
 -- One double-shift pass over a window of three or more rows (document 01, step 6; docs/SUMS.md, 7.7).
 use Prim.Native.Nat.{ℕ, _+_, _-_, min}
-use mathlib.Core.Bool.{Bool, cond, _&&_}
+use mathlib.Core.Bool.{cond, _&&_}
 use mathlib.Core.List.{List}
 use lib.Dec.{leb}
 use lib.ListN.{length, set}
@@ -17,6 +17,7 @@ use Rattle.matrix.specs.declared.vector.Vector3.{Vector3}
 use Rattle.reflection.specs.Reflected.{reflected, reflectedRows}
 use Rattle.householder.specs.Axis.{axisOf}
 use Rattle.window.specs.declared.Window.{Window}
+use Rattle.pass.specs.declared.setting.Setting.{Setting}
 use Rattle.pass.specs.Pair.{Pair, pair, onQ}
 
 -- ---- the columns whose axes a pass uses
@@ -45,8 +46,8 @@ unfoldable pub bulgeEnd : (n k : ℕ) → (t : List Float) → Vector2
 bulgeEnd n k t = record { x = t ! place n k (k - 1); y = t ! place n (k + 1) (k - 1) }
 
 -- at the start the first column, past it the bulge
-unfoldable pub columnAt : Vector3 → (n start k : ℕ) → (t : List Float) → Vector3
-columnAt first n s k t = cond (leb k s) first (bulge n k t)
+unfoldable pub columnAt : (n start k : ℕ) → (first : Vector3) → (t : List Float) → Vector3
+columnAt n s k first t = cond (leb k s) first (bulge n k t)
 
 -- ---- one step of a pass
 
@@ -54,38 +55,44 @@ columnAt first n s k t = cond (leb k s) first (bulge n k t)
 unfoldable pub swept : (n k rows : ℕ) → (x : Float) → (t : List Float) → List Float
 swept n k rows x t = range (λ i t. set t (place n i (k - 1)) zero) (k + 1) (k + rows) (set t (place n k (k - 1)) x)
 
--- past the first step of a pass that began at s
-unfoldable pub sweptPast : (start n k rows : ℕ) → (x : Float) → (t : List Float) → List Float
-sweptPast s n k rows x t = cond (leb k s) t (swept n k rows x t)
+-- past the first step of a pass that began at `start`
+unfoldable pub sweptPast : (n start k rows : ℕ) → (x : Float) → (t : List Float) → List Float
+sweptPast n s k rows x t = cond (leb k s) t (swept n k rows x t)
 
 -- both sides by the axis a from row and column k on: the rows of T in all columns to the order, then the columns of T in its first `rows` rows;
 -- and the columns of Q in all its rows
-unfoldable pub reflectedAt : (wanted : Bool) → (n : ℕ) → (a : List Float) → (k rows : ℕ) → Pair → Pair
-reflectedAt wanted n a k rows p =
-    pair (reflectedRows a one n rows k (reflected bare a one n k k n (p .t))) (onQ wanted (reflectedRows a one n n k) (p .q))
+unfoldable pub reflectedAt : Setting → (k rows : ℕ) → (a : List Float) → Pair → Pair
+reflectedAt asked k rows a p =
+    let n = asked .order in
+    pair (reflectedRows a one n rows k (reflected bare a one n k k n (p .t))) (onQ (asked .wanted) (reflectedRows a one n n k) (p .q))
 
--- The step at k by the column c. Where the axis answers that there is no reflection, nothing is done.
-unfoldable pub stepAt : (wanted : Bool) → (n start k rows : ℕ) → (c : List Float) → Pair → Pair
-stepAt wanted n s k rows c p =
+-- T's columns are reflected in the rows down to k + 3, or to the window's end
+abbrev pub rowsAt : (k end : ℕ) → ℕ
+rowsAt k e = min (k + 4) (e + 1)
+
+-- The step at k by the column c, in a pass over the window w. Where the axis answers that there is no reflection, nothing is done.
+unfoldable pub stepAt : Setting → Window → (k : ℕ) → (c : List Float) → Pair → Pair
+stepAt asked w k c p =
     let r = axisOf bare c in
-    cond (r .reflected) (reflectedAt wanted n (r .axis) k rows (pair (sweptPast s n k (length c) (r .norm) (p .t)) (p .q))) p
+    let there = pair (sweptPast (asked .order) (w .start) k (length c) (r .norm) (p .t)) (p .q) in
+    cond (r .reflected) (reflectedAt asked k (rowsAt k (w .end)) (r .axis) there) p
 
 -- ---- the pass
 
--- the step at k by three numbers: T's columns in the rows down to k + 3, or to the window's end
-unfoldable pub chased : (wanted : Bool) → (n : ℕ) → Vector3 → (start end k : ℕ) → Pair → Pair
-chased wanted n first s e k p = stepAt wanted n s k (min (k + 4) (e + 1)) (three (columnAt first n s k (p .t))) p
+-- the step at k by three numbers
+unfoldable pub chased : Setting → Window → (first : Vector3) → (k : ℕ) → Pair → Pair
+chased asked w first k p = stepAt asked w k (three (columnAt (asked .order) (w .start) k first (p .t))) p
 
 -- the last step, by two
-unfoldable pub closing : (wanted : Bool) → (n start end : ℕ) → Pair → Pair
-closing wanted n s e p = stepAt wanted n s (e - 1) (e + 1) (two (bulgeEnd n (e - 1) (p .t))) p
+unfoldable pub closing : Setting → Window → Pair → Pair
+closing asked w p = let k = w .end - 1 in stepAt asked w k (two (bulgeEnd (asked .order) k (p .t))) p
 
-unfoldable pub passHere : (wanted : Bool) → (n : ℕ) → Window → Pair → Pair
-passHere wanted n w p =
-    let s = w .start in
-    let e = w .end in
-    closing wanted n s e (range (chased wanted n (firstColumn n s e (p .t)) s e) s (e - 1) p)
+unfoldable pub passHere : Setting → Window → Pair → Pair
+passHere asked w p =
+    let first = firstColumn (asked .order) (w .start) (w .end) (p .t) in
+    closing asked w (range (chased asked w first) (w .start) (w .end - 1) p)
 
 -- the same for every window: nothing is done where it is none of three rows or more of the matrix
-unfoldable pub passOf : (wanted : Bool) → (n : ℕ) → Window → Pair → Pair
-passOf wanted n w p = cond (blockFits n (length (p .t)) (w .end + 1) (w .end + 1) && leb (w .start + 2) (w .end)) (passHere wanted n w p) p
+unfoldable pub passOf : Setting → Window → Pair → Pair
+passOf asked w p =
+    cond (blockFits (asked .order) (length (p .t)) (w .end + 1) (w .end + 1) && leb (w .start + 2) (w .end)) (passHere asked w p) p

@@ -3,9 +3,10 @@ ghost use mathlib.Core.Path.{_≡_};
 ghost use lib.ListN.{length};
 ghost use Prim.Native.Nat.{_+_, _*_, _<_, _≤_};
 ghost use Rattle.pass.specs.Pair.{pair};
-ghost use Rattle.pass.specs.Block.{blockAt, discriminant, eigvalsOf, basisOf, turnedBy, splitAt, columnsIn, orderTwo};
+ghost use Rattle.pass.specs.Block.{blockAt, discriminant, eigvalsOf, basisOf, turnedT, turnedQ, splitAt, columnsIn, orderTwo};
 use crate::place::get;
 use crate::place::put;
+use crate::setting::Setting;
 use givens::Rotation;
 
 // Rows (h00 h01), (h10 h11).
@@ -90,10 +91,10 @@ pub fn compute_2x2_basis(m: Block) -> Basis
     Basis::Rotate(rot)
 }
 
-// T and Q turned by the rotation of the block at k: the block becomes triangular, or is left standing.
-fn turn_by(basis: Basis, t: &mut [f64], q: &mut [f64], n: usize, wanted: bool, k: usize)
+// T turned by the rotation of the block at k: the block becomes triangular, or is left standing.
+fn turn_t(basis: Basis, t: &mut [f64], n: usize, k: usize)
     requires { ⌜ (n ≤ 64) × (length (now t) ≡ n * n) × (k + 1 < n) ⌝ }
-    ensures { λ _. ⌜ pair (now (t .exit)) (now (q .exit)) ≡ turnedBy wanted n k basis (pair (now (t .entry)) (now (q .entry))) ⌝ }
+    ensures { λ _. ⌜ now (t .exit) ≡ turnedT n k basis (now (t .entry)) ⌝ }
 {
     let Basis::Rotate(rot) = basis else {
         return;
@@ -101,20 +102,31 @@ fn turn_by(basis: Basis, t: &mut [f64], q: &mut [f64], n: usize, wanted: bool, k
     rot.inverse().rotate(t, n, k, k, n);
     rot.rotate_rows(t, n, k, k + 2);
     put(t, n, k + 1, k, 0.0);
-    if wanted {
-        rot.rotate_rows(q, n, k, n);
-    }
+}
+
+// Q turned by the same.
+fn turn_q(basis: Basis, q: &mut [f64], n: usize, k: usize)
+    requires { ⌜ k + 1 < n ⌝ }
+    ensures { λ _. ⌜ now (q .exit) ≡ turnedQ n k basis (now (q .entry)) ⌝ }
+{
+    let Basis::Rotate(rot) = basis else {
+        return;
+    };
+    rot.rotate_rows(q, n, k, n);
 }
 
 // A window of two, at k: nothing is done where it is none of the matrix.
-pub fn split(t: &mut [f64], q: &mut [f64], n: usize, wanted: bool, k: usize)
-    ensures { λ _. ⌜ pair (now (t .exit)) (now (q .exit)) ≡ splitAt wanted n k (pair (now (t .entry)) (now (q .entry))) ⌝ }
+pub fn split(t: &mut [f64], q: &mut [f64], asked: Setting, k: usize)
+    ensures { λ _. ⌜ pair (now (t .exit)) (now (q .exit)) ≡ splitAt asked k (pair (now (t .entry)) (now (q .entry))) ⌝ }
 {
-    if !matrix::block_fits(n, t.len(), k, 2, k, 2) {
+    if !matrix::block_fits(asked.order, t.len(), k, 2, k, 2) {
         return;
     }
-    let basis = compute_2x2_basis(block_at(t, n, k));
-    turn_by(basis, t, q, n, wanted, k);
+    let basis = compute_2x2_basis(block_at(t, asked.order, k));
+    turn_t(basis, t, asked.order, k);
+    if asked.wanted {
+        turn_q(basis, q, asked.order, k);
+    }
 }
 
 // Q of order 2: the rotation itself, or the identity.
@@ -138,15 +150,15 @@ fn basis_columns(basis: Basis, q: &mut [f64])
 }
 
 // Order 2, whole: no scaling and no pass. Nothing is done where t has another order.
-pub fn decompose_2x2(t: &mut [f64], q: &mut [f64], wanted: bool)
-    ensures { λ _. ⌜ pair (now (t .exit)) (now (q .exit)) ≡ orderTwo wanted (pair (now (t .entry)) (now (q .entry))) ⌝ }
+pub fn decompose_2x2(t: &mut [f64], q: &mut [f64], asked: Setting)
+    ensures { λ _. ⌜ pair (now (t .exit)) (now (q .exit)) ≡ orderTwo asked (pair (now (t .entry)) (now (q .entry))) ⌝ }
 {
     if t.len() != 4 {
         return;
     }
     let basis = compute_2x2_basis(block_at(t, 2, 0));
-    turn_by(basis, t, q, 2, false, 0);
-    if wanted {
+    turn_t(basis, t, 2, 0);
+    if asked.wanted {
         basis_columns(basis, q);
     }
 }

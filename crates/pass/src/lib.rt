@@ -3,6 +3,7 @@
 // only where it is wanted.
 mod block;
 mod place;
+mod setting;
 mod shift;
 
 pub use block::Basis;
@@ -14,4 +15,5 @@ pub use block::compute_2x2_eigvals;
 pub use block::decompose_2x2;
 pub use block::discriminant;
 pub use block::split;
+pub use setting::Setting;
 pub use shift::double_shift;

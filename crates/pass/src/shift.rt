@@ -2,15 +2,16 @@
 // wanted.
 ghost use mathlib.Core.Path.{_≡_};
 ghost use lib.ListN.{length};
-ghost use Prim.Native.Nat.{_+_, _*_, _<_, _≤_, min};
+ghost use Prim.Native.Nat.{_+_, _*_, _<_, _≤_};
 ghost use Rattle.loops.specs.Constants.{one};
 ghost use Rattle.matrix.specs.Sum.{bare};
 ghost use Rattle.matrix.specs.Vectors.{two, three};
 ghost use Rattle.reflection.specs.Reflected.{reflected, reflectedRows};
 ghost use Rattle.pass.specs.Pair.{pair};
-ghost use Rattle.pass.specs.Pass.{firstColumn, bulge, bulgeEnd, columnAt, sweptPast, reflectedAt, stepAt, chased, closing, passHere, passOf};
+ghost use Rattle.pass.specs.Pass.{firstColumn, bulge, bulgeEnd, columnAt, sweptPast, reflectedAt, rowsAt, stepAt, chased, closing, passHere, passOf};
 use crate::place::get;
 use crate::place::put;
+use crate::setting::Setting;
 use matrix::Vector2;
 use matrix::Vector3;
 use window::Window;
@@ -66,7 +67,7 @@ fn bulge2(t: &[f64], n: usize, k: usize) -> Vector2
 // What the reflection makes of column k - 1, past the first step: the norm in row k, +0 in the next rows.
 fn sweep3(t: &mut [f64], n: usize, start: usize, k: usize, norm: f64)
     requires { ⌜ (n ≤ 64) × (length (now t) ≡ n * n) × (k + 2 < n) ⌝ }
-    ensures { λ _. ⌜ now (t .exit) ≡ sweptPast start n k 3 norm (now (t .entry)) ⌝ }
+    ensures { λ _. ⌜ now (t .exit) ≡ sweptPast n start k 3 norm (now (t .entry)) ⌝ }
 {
     if k <= start {
         return;
@@ -79,7 +80,7 @@ fn sweep3(t: &mut [f64], n: usize, start: usize, k: usize, norm: f64)
 
 fn sweep2(t: &mut [f64], n: usize, start: usize, k: usize, norm: f64)
     requires { ⌜ (n ≤ 64) × (length (now t) ≡ n * n) × (k + 1 < n) ⌝ }
-    ensures { λ _. ⌜ now (t .exit) ≡ sweptPast start n k 2 norm (now (t .entry)) ⌝ }
+    ensures { λ _. ⌜ now (t .exit) ≡ sweptPast n start k 2 norm (now (t .entry)) ⌝ }
 {
     if k <= start {
         return;
@@ -102,101 +103,31 @@ fn both_sides3(a: Vector3, t: &mut [f64], n: usize, k: usize, rows: usize)
 }
 
 // The same; and Q.
-fn reflect_at3(
-    a: Vector3,
-    t: &mut [f64],
-    q: &mut [f64],
-    n: usize,
-    wanted: bool,
-    k: usize,
-    rows: usize,
-)
-    requires { ⌜ (n ≤ 64) × (length (now t) ≡ n * n) × (k + 2 < n) × (rows ≤ n) ⌝ }
-    ensures { λ _. ⌜ pair (now (t .exit)) (now (q .exit)) ≡ reflectedAt wanted n (three a) k rows (pair (now (t .entry)) (now (q .entry))) ⌝ }
+fn reflect_at3(a: Vector3, t: &mut [f64], q: &mut [f64], asked: Setting, k: usize, rows: usize)
+    requires { ⌜ (asked .order ≤ 64) × (length (now t) ≡ asked .order * asked .order) × (k + 2 < asked .order) × (rows ≤ asked .order) ⌝ }
+    ensures { λ _. ⌜ pair (now (t .exit)) (now (q .exit)) ≡ reflectedAt asked k rows (three a) (pair (now (t .entry)) (now (q .entry))) ⌝ }
 {
-    both_sides3(a, t, n, k, rows);
-    if wanted {
-        reflection::reflect_rows3(a, q, n, n, k);
+    both_sides3(a, t, asked.order, k, rows);
+    if asked.wanted {
+        reflection::reflect_rows3(a, q, asked.order, asked.order, k);
     }
 }
 
 // Both sides and Q by an axis of two.
-fn reflect_at2(
-    a: Vector2,
-    t: &mut [f64],
-    q: &mut [f64],
-    n: usize,
-    wanted: bool,
-    k: usize,
-    rows: usize,
-)
-    ensures { λ _. ⌜ pair (now (t .exit)) (now (q .exit)) ≡ reflectedAt wanted n (two a) k rows (pair (now (t .entry)) (now (q .entry))) ⌝ }
+fn reflect_at2(a: Vector2, t: &mut [f64], q: &mut [f64], asked: Setting, k: usize, rows: usize)
+    ensures { λ _. ⌜ pair (now (t .exit)) (now (q .exit)) ≡ reflectedAt asked k rows (two a) (pair (now (t .entry)) (now (q .entry))) ⌝ }
 {
-    reflection::reflect2(a, t, n, k, k, n);
-    reflection::reflect_rows2(a, t, n, rows, k);
-    if wanted {
-        reflection::reflect_rows2(a, q, n, n, k);
+    reflection::reflect2(a, t, asked.order, k, k, asked.order);
+    reflection::reflect_rows2(a, t, asked.order, rows, k);
+    if asked.wanted {
+        reflection::reflect_rows2(a, q, asked.order, asked.order, k);
     }
-}
-
-// The step at k by the column, in a pass that began at `start`.
-fn step3(
-    column: Vector3,
-    t: &mut [f64],
-    q: &mut [f64],
-    n: usize,
-    wanted: bool,
-    start: usize,
-    k: usize,
-    rows: usize,
-)
-    requires { ⌜ (n ≤ 64) × (length (now t) ≡ n * n) × (k + 2 < n) × (rows ≤ n) ⌝ }
-    ensures { λ _. ⌜ pair (now (t .exit)) (now (q .exit)) ≡ stepAt wanted n start k rows (three column) (pair (now (t .entry)) (now (q .entry))) ⌝ }
-{
-    let r = householder::reflection_axis3(column);
-    if !r.reflected {
-        return;
-    }
-    sweep3(t, n, start, k, r.norm);
-    reflect_at3(r.axis, t, q, n, wanted, k, rows);
-}
-
-fn step2(
-    column: Vector2,
-    t: &mut [f64],
-    q: &mut [f64],
-    n: usize,
-    wanted: bool,
-    start: usize,
-    k: usize,
-    rows: usize,
-)
-    requires { ⌜ (n ≤ 64) × (length (now t) ≡ n * n) × (k + 1 < n) ⌝ }
-    ensures { λ _. ⌜ pair (now (t .exit)) (now (q .exit)) ≡ stepAt wanted n start k rows (two column) (pair (now (t .entry)) (now (q .entry))) ⌝ }
-{
-    let r = householder::reflection_axis2(column);
-    if !r.reflected {
-        return;
-    }
-    sweep2(t, n, start, k, r.norm);
-    reflect_at2(r.axis, t, q, n, wanted, k, rows);
-}
-
-// The column of the step at k: at the start the first column, past it the bulge.
-fn column_at(first: Vector3, t: &[f64], n: usize, start: usize, k: usize) -> Vector3
-    requires { ⌜ (n ≤ 64) × (length (now t) ≡ n * n) × (k + 2 < n) ⌝ }
-    ensures { λ r. ⌜ r ≡ columnAt first n start k (now (t .entry)) ⌝ }
-{
-    if k <= start {
-        return first;
-    }
-    bulge3(t, n, k)
 }
 
 // How many rows of T the step at k reflects in its columns: down to k + 3, or to the window's end.
 fn rows_at(k: usize, end: usize) -> usize
     requires { ⌜ (k < 64) × (end < 64) ⌝ }
-    ensures { λ r. ⌜ r ≡ min (k + 4) (end + 1) ⌝ }
+    ensures { λ r. ⌜ r ≡ rowsAt k end ⌝ }
 {
     if k + 4 < end + 1 {
         return k + 4;
@@ -204,52 +135,80 @@ fn rows_at(k: usize, end: usize) -> usize
     end + 1
 }
 
-// The step at k by three numbers.
-fn chase(
-    first: Vector3,
-    t: &mut [f64],
-    q: &mut [f64],
-    n: usize,
-    wanted: bool,
-    start: usize,
-    end: usize,
-    k: usize,
-)
-    requires { ⌜ (n ≤ 64) × (length (now t) ≡ n * n) × (k + 1 < end) × (end < n) ⌝ }
-    ensures { λ _. ⌜ pair (now (t .exit)) (now (q .exit)) ≡ chased wanted n first start end k (pair (now (t .entry)) (now (q .entry))) ⌝ }
+// The step at k by the column, in a pass over the window w.
+fn step3(column: Vector3, t: &mut [f64], q: &mut [f64], asked: Setting, w: Window, k: usize)
+    requires { ⌜ (asked .order ≤ 64) × (length (now t) ≡ asked .order * asked .order) × (k + 2 < asked .order) × (w .end < asked .order) ⌝ }
+    ensures { λ _. ⌜ pair (now (t .exit)) (now (q .exit)) ≡ stepAt asked w k (three column) (pair (now (t .entry)) (now (q .entry))) ⌝ }
 {
-    let column = column_at(first, t, n, start, k);
-    step3(column, t, q, n, wanted, start, k, rows_at(k, end));
+    let r = householder::reflection_axis3(column);
+    if !r.reflected {
+        return;
+    }
+    sweep3(t, asked.order, w.start, k, r.norm);
+    reflect_at3(r.axis, t, q, asked, k, rows_at(k, w.end));
+}
+
+fn step2(column: Vector2, t: &mut [f64], q: &mut [f64], asked: Setting, w: Window, k: usize)
+    requires { ⌜ (asked .order ≤ 64) × (length (now t) ≡ asked .order * asked .order) × (k + 1 < asked .order) × (w .end < asked .order) ⌝ }
+    ensures { λ _. ⌜ pair (now (t .exit)) (now (q .exit)) ≡ stepAt asked w k (two column) (pair (now (t .entry)) (now (q .entry))) ⌝ }
+{
+    let r = householder::reflection_axis2(column);
+    if !r.reflected {
+        return;
+    }
+    sweep2(t, asked.order, w.start, k, r.norm);
+    reflect_at2(r.axis, t, q, asked, k, rows_at(k, w.end));
+}
+
+// The column of the step at k: at the start the first column, past it the bulge.
+fn column_at(first: Vector3, t: &[f64], n: usize, start: usize, k: usize) -> Vector3
+    requires { ⌜ (n ≤ 64) × (length (now t) ≡ n * n) × (k + 2 < n) ⌝ }
+    ensures { λ r. ⌜ r ≡ columnAt n start k first (now (t .entry)) ⌝ }
+{
+    if k <= start {
+        return first;
+    }
+    bulge3(t, n, k)
+}
+
+// The step at k by three numbers.
+fn chase(first: Vector3, t: &mut [f64], q: &mut [f64], asked: Setting, w: Window, k: usize)
+    requires { ⌜ (asked .order ≤ 64) × (length (now t) ≡ asked .order * asked .order) × (k + 1 < w .end) × (w .end < asked .order) ⌝ }
+    ensures { λ _. ⌜ pair (now (t .exit)) (now (q .exit)) ≡ chased asked w first k (pair (now (t .entry)) (now (q .entry))) ⌝ }
+{
+    let column = column_at(first, t, asked.order, w.start, k);
+    step3(column, t, q, asked, w, k);
 }
 
 // The last step, by two.
-fn close(t: &mut [f64], q: &mut [f64], n: usize, wanted: bool, start: usize, end: usize)
-    requires { ⌜ (n ≤ 64) × (length (now t) ≡ n * n) × (start + 2 ≤ end) × (end < n) ⌝ }
-    ensures { λ _. ⌜ pair (now (t .exit)) (now (q .exit)) ≡ closing wanted n start end (pair (now (t .entry)) (now (q .entry))) ⌝ }
+fn close(t: &mut [f64], q: &mut [f64], asked: Setting, w: Window)
+    requires { ⌜ (asked .order ≤ 64) × (length (now t) ≡ asked .order * asked .order) × (w .start + 2 ≤ w .end) × (w .end < asked .order) ⌝ }
+    ensures { λ _. ⌜ pair (now (t .exit)) (now (q .exit)) ≡ closing asked w (pair (now (t .entry)) (now (q .entry))) ⌝ }
 {
-    let m = end - 1;
-    let column = bulge2(t, n, m);
-    step2(column, t, q, n, wanted, start, m, end + 1);
+    let k = w.end - 1;
+    let column = bulge2(t, asked.order, k);
+    step2(column, t, q, asked, w, k);
 }
 
 // Every step of the pass.
-fn shift_here(t: &mut [f64], q: &mut [f64], n: usize, wanted: bool, w: Window)
-    requires { ⌜ (n ≤ 64) × (length (now t) ≡ n * n) × (w .start + 2 ≤ w .end) × (w .end < n) ⌝ }
-    ensures { λ _. ⌜ pair (now (t .exit)) (now (q .exit)) ≡ passHere wanted n w (pair (now (t .entry)) (now (q .entry))) ⌝ }
+fn shift_here(t: &mut [f64], q: &mut [f64], asked: Setting, w: Window)
+    requires { ⌜ (asked .order ≤ 64) × (length (now t) ≡ asked .order * asked .order) × (w .start + 2 ≤ w .end) × (w .end < asked .order) ⌝ }
+    ensures { λ _. ⌜ pair (now (t .exit)) (now (q .exit)) ≡ passHere asked w (pair (now (t .entry)) (now (q .entry))) ⌝ }
 {
     let start = w.start;
     let end = w.end;
-    let first = first_column(t, n, start, end);
+    let first = first_column(t, asked.order, start, end);
     for k in start..end - 1 {
-        chase(first, t, q, n, wanted, start, end, k);
+        chase(first, t, q, asked, w, k);
     }
-    close(t, q, n, wanted, start, end);
+    close(t, q, asked, w);
 }
 
 // The same for every argument: nothing is done where the window is none of three rows or more of the matrix.
-pub fn double_shift(t: &mut [f64], q: &mut [f64], n: usize, wanted: bool, w: Window)
-    ensures { λ _. ⌜ pair (now (t .exit)) (now (q .exit)) ≡ passOf wanted n w (pair (now (t .entry)) (now (q .entry))) ⌝ }
+pub fn double_shift(t: &mut [f64], q: &mut [f64], asked: Setting, w: Window)
+    ensures { λ _. ⌜ pair (now (t .exit)) (now (q .exit)) ≡ passOf asked w (pair (now (t .entry)) (now (q .entry))) ⌝ }
 {
+    let n = asked.order;
     let start = w.start;
     let end = w.end;
     if !matrix::block_fits(n, t.len(), 0, n, 0, n) {
@@ -269,5 +228,5 @@ pub fn double_shift(t: &mut [f64], q: &mut [f64], n: usize, wanted: bool, w: Win
     if start > end - 2 {
         return;
     }
-    shift_here(t, q, n, wanted, Window { start, end });
+    shift_here(t, q, asked, w);
 }

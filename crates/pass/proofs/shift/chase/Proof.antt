@@ -4,7 +4,11 @@ use Rattle.pass.specs.Pass.{chased}
 use Rattle.pass.proofs.shift.chase.Statement.{statement}
 use Rattle.pass.proofs.shift.chase.Tie as tie
 
-pub chase-spec : {M : Type 1} → statement M
+returns : tie.Need-returns
 unfolding chased
-chase-spec = tie.close (tie.spec (λ c κs. omega arith) (λ c κs. omega arith) (λ c κs. omega arith) (λ c. omega arith) (λ c. omega arith)
-    (λ c. rw (c .before .before .before .before .step3 .ensures, c .before .before .before .before .before .rows-at .ensures, c .before .before .before .before .before .before .before .before .column-at .ensures)))
+returns c =
+    let stepped = c .before .before .before .before in
+    rw (stepped .step3 .ensures, stepped .before .before .before .column-at .ensures)
+
+pub chase-spec : {M : Type 1} → statement M
+chase-spec = tie.close (tie.spec (λ c κs. omega arith) (λ c κs. omega arith) (λ c. omega arith) (λ c. omega arith) returns)

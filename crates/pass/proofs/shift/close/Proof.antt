@@ -4,7 +4,11 @@ use Rattle.pass.specs.Pass.{closing}
 use Rattle.pass.proofs.shift.close.Statement.{statement}
 use Rattle.pass.proofs.shift.close.Tie as tie
 
-pub close-spec : {M : Type 1} → statement M
+returns : tie.Need-returns
 unfolding closing
-close-spec = tie.close (tie.spec (λ c. omega arith) (λ c κs. omega arith) (λ c. omega arith) (λ c κs. omega arith) (λ c. omega arith) (λ c. omega arith)
-    (λ c. rw (c .before .before .before .before .step2 .ensures, c .before .before .before .before .before .before .before .bulge2 .ensures)))
+returns c =
+    let stepped = c .before .before .before .before in
+    rw (stepped .step2 .ensures, stepped .before .before .before .bulge2 .ensures)
+
+pub close-spec : {M : Type 1} → statement M
+close-spec = tie.close (tie.spec (λ c. omega arith) (λ c κs. omega arith) (λ c κs. omega arith) (λ c. omega arith) (λ c. omega arith) returns)

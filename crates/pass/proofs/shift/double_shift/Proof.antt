@@ -13,16 +13,16 @@ use Rattle.pass.proofs.Fitted.{no-matrix, too-large, behind, present}
 use Rattle.pass.proofs.shift.double_shift.Statement.{statement}
 use Rattle.pass.proofs.shift.double_shift.Tie as tie
 
-whole : (c : tie.After-block-fits) → let x = c .before .before .before .args in c .block-fits .result ≡ blockFits (x .n) (length (x .t .now)) (x .n) (x .n)
+whole : (c : tie.After-block-fits) → let x = c .before .before .before .args in c .block-fits .result ≡ blockFits (x .asked .order) (length (x .t .now)) (x .asked .order) (x .asked .order)
 whole c = from-row-0 _ _ _ _ (from-column-0 _ _ _ _ (c .block-fits .ensures))
 
-matrix : (c : tie.Else1) → let x = c .before .before .before .before .args in Fits (x .n) (length (x .t .now)) (x .n) (x .n)
+matrix : (c : tie.Else1) → let x = c .before .before .before .before .args in Fits (x .asked .order) (length (x .t .now)) (x .asked .order) (x .asked .order)
 matrix c = within _ _ _ _ (whole (c .before)) (c .if1 .left)
 
-fitted : (c : tie.Else3) → let x = c .before .before .before .before .before .before .args in Fits (x .n) (length (x .t .now)) (x .w .end + 1) (x .w .end + 1)
+fitted : (c : tie.Else3) → let x = c .before .before .before .before .before .before .args in Fits (x .asked .order) (length (x .t .now)) (x .w .end + 1) (x .w .end + 1)
 fitted c = present _ _ _ (matrix (c .before .before)) (omega arith)
 
-there : (c : tie.Else3) → let x = c .before .before .before .before .before .before .args in blockFits (x .n) (length (x .t .now)) (x .w .end + 1) (x .w .end + 1) ≡ true
+there : (c : tie.Else3) → let x = c .before .before .before .before .before .before .args in blockFits (x .asked .order) (length (x .t .now)) (x .w .end + 1) (x .w .end + 1) ≡ true
 there c = let f = fitted c in fitting _ _ _ _ (f .order) (f .size) (f .inRows) (f .inCols)
 
 returns : tie.Need-returns
@@ -31,11 +31,11 @@ returns c = rw (no-matrix _ _ (c .before .before .before .before .args .w .end) 
 
 returns-2 : tie.Need-returns-2
 unfolding passOf
-returns-2 c = let x = c .before .before .before .before .before .args in rw (too-large (x .n) (length (x .t .now)) (x .w .end) (omega arith))
+returns-2 c = let x = c .before .before .before .before .before .args in rw (too-large (x .asked .order) (length (x .t .now)) (x .w .end) (omega arith))
 
 returns-3 : tie.Need-returns-3
 unfolding passOf
-returns-3 c = let x = c .before .before .before .before .before .before .args in rw (behind (x .n) (length (x .t .now)) (x .w .end) (omega arith))
+returns-3 c = let x = c .before .before .before .before .before .before .args in rw (behind (x .asked .order) (length (x .t .now)) (x .w .end) (omega arith))
 
 returns-4 : tie.Need-returns-4
 unfolding passOf
@@ -47,10 +47,14 @@ returns-5 c = let w = c .before .before .before .before .before .before .before 
 
 returns-6 : tie.Need-returns-6
 unfolding passOf
-returns-6 c = let w = c .before .before .before .before .before .before .before .before .before .before .before .before .before .before .before .args .w in rw (there (c .before .before .before .before .before .before .before .before .before), le-leb (w .start + 2) (w .end) (omega arith)) (c .before .before .before .before .shift-here .ensures)
+returns-6 c =
+    let shifted = c .before .before .before .before in
+    let asks = shifted .before .before .before .before .before in
+    let w = asks .before .before .before .before .before .before .args .w in
+    rw (there asks, le-leb (w .start + 2) (w .end) (omega arith)) (shifted .shift-here .ensures)
 
 -- the place of the last entry, where both numbers are at most 64
-room : (c : tie.Else2) → let x = c .before .before .before .before .before .args in x .w .end * x .n ≤ 4096
+room : (c : tie.Else2) → let x = c .before .before .before .before .before .args in x .w .end * x .asked .order ≤ 4096
 room c = let f = matrix (c .before) in product-64 _ _ (omega arith) (f .order)
 
 pub double-shift-spec : {M : Type 1} → statement M

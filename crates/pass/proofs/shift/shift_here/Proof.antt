@@ -10,27 +10,29 @@ use Rattle.pass.proofs.shift.shift_here.Statement.{statement}
 use Rattle.pass.proofs.shift.shift_here.Tie as tie
 
 abbrev Inv-loop : tie.InvT-loop
-Inv-loop t₀ q₀ n wanted start end first k₀ k-end t q k = (start ≤ k) × (k ≤ k-end) × (k-end + 1 ≡ end) × (end < n) × (length t ≡ n * n) × (length q ≡ length q₀)
-    × (pair t q ≡ range (chased wanted n first start end) start k (pair t₀ q₀))
+Inv-loop t₀ q₀ asked w start end first k₀ k-end t q k = (w .start ≤ k) × (k ≤ k-end) × (k-end + 1 ≡ w .end) × (w .end < asked .order)
+    × (length t ≡ asked .order * asked .order) × (length q ≡ length q₀) × (pair t q ≡ range (chased asked w first) (w .start) k (pair t₀ q₀))
 
 abbrev μ-loop : tie.MeasureT-loop
-μ-loop t₀ q₀ n wanted start end first k₀ k-end t q k = k-end - k
+μ-loop t₀ q₀ asked w start end first k₀ k-end t q k = k-end - k
 
 loop-again : tie.Need-loop-again Inv-loop μ-loop
 loop-again c =
-    let inv = c .before .before .before .before .before .before .before .before .loop .inv in
-    let l = c .before .before .before .before .before .before .before .before .loop in
-    (omega arith, omega arith, omega arith, omega arith, omega arith, omega arith, c .before .before .before .before .chase .ensures ∙ ap (chased _ _ _ _ _ (l .k)) (inv .6) ∙ sym (range-more _ _ (l .k) _ (inv .0)))
+    let stepped = c .before .before .before .before in
+    let l = stepped .before .before .before .before .loop in
+    (omega arith, omega arith, omega arith, omega arith, omega arith, omega arith, stepped .chase .ensures ∙ ap (chased _ _ _ (l .k)) (l .inv .6) ∙ sym (range-more _ _ (l .k) _ (l .inv .0)))
 
 returns : tie.Need-returns Inv-loop μ-loop
 unfolding passHere
 returns c =
-    let l = c .before .before .before .before .before .before .before .before .loop in
-    let x = c .before .before .before .before .before .before .before .before .before .before .before .before .before .args in
+    let shut = c .before .before .before .before in
+    let l = shut .before .before .before .before .loop in
+    let read = shut .before .before .before .before .before in
+    let x = read .before .before .before .before .args in
     let s = x .w .start in
     let e = x .w .end in
-    let done = range-done (chased (x .wanted) (x .n) (c .before .before .before .before .before .before .before .before .before .first-column .result) s e) s (e - 1) (l .k) (pair (x .t .now) (x .q .now)) (omega arith) (omega arith) (omega arith) in
-    c .before .before .before .before .close .ensures ∙ ap (closing (x .wanted) (x .n) s e) (l .inv .6 ∙ done) ∙ rw (c .before .before .before .before .before .before .before .before .before .first-column .ensures)
+    let done = range-done (chased (x .asked) (x .w) (read .first-column .result)) s (e - 1) (l .k) (pair (x .t .now) (x .q .now)) (omega arith) (omega arith) (omega arith) in
+    shut .close .ensures ∙ ap (closing (x .asked) (x .w)) (l .inv .6 ∙ done) ∙ rw (read .first-column .ensures)
 
 pub shift-here-spec : {M : Type 1} → statement M
 shift-here-spec = tie.close (tie.spec Inv-loop μ-loop (λ c κs. omega arith) (λ c. omega arith)

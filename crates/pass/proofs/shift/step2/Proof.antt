@@ -1,13 +1,27 @@
 -- `pass::shift::step2` meets its contract. Assumes nothing.
 use native.Mathlib.Omega.{arith}
 use borrow.Author.Tests.{not-true, not-false}
-use Rattle.pass.specs.Pass.{stepAt}
+use Rattle.matrix.specs.Vectors.{two}
+use Rattle.householder.specs.Axis.{told}
+use Rattle.pass.proofs.Stepping.{step-none, step-made}
 use Rattle.pass.proofs.shift.step2.Statement.{statement}
 use Rattle.pass.proofs.shift.step2.Tie as tie
 
+returns : tie.Need-returns
+returns c =
+    let axis = c .before .before .reflection-axis2 in
+    step-none _ _ _ _ _ (told (two (axis .result .axis)) (axis .result .norm) (axis .result .reflected)) (axis .ensures) (not-true (axis .result .reflected) (c .if1 .taken))
+
+returns-2 : tie.Need-returns-2
+returns-2 c =
+    let reflected = c .before .before .before .before in
+    let counted = reflected .before in
+    let swept = counted .before .before .before .before .before in
+    let goes = swept .before .before in
+    let axis = goes .before .before .reflection-axis2 in
+    step-made _ _ _ _ _ (told (two (axis .result .axis)) (axis .result .norm) (axis .result .reflected)) _ _ _ (axis .ensures) (not-false (axis .result .reflected) (goes .if1 .left))
+    (swept .sweep2 .ensures) (counted .rows-at .ensures) (reflected .reflect-at2 .ensures)
+
 pub step2-spec : {M : Type 1} → statement M
-unfolding stepAt
-step2-spec = tie.close (tie.spec (λ c κs. omega arith)
-    (λ c. rw (← c .before .before .reflection-axis2 .ensures, not-true (c .before .before .reflection-axis2 .result .reflected) (c .if1 .taken)))
-    (λ c κs. omega arith) (λ c κs. omega arith) (λ c. omega arith) (λ c. omega arith)
-    (λ c. rw (← c .before .before .before .before .before .before .before .before .before .before .before .before .before .reflection-axis2 .ensures, not-false (c .before .before .before .before .before .before .before .before .before .before .before .before .before .reflection-axis2 .result .reflected) (c .before .before .before .before .before .before .before .before .before .before .before .if1 .left), ← c .before .before .before .before .before .before .before .before .before .sweep2 .ensures, ← c .before .before .before .before .reflect-at2 .ensures)))
+step2-spec = tie.close (tie.spec (λ c κs. omega arith) returns (λ c κs. omega arith) (λ c κs. omega arith) (λ c κs. omega arith) (λ c. omega arith) (λ c. omega arith)
+    returns-2)

@@ -1,13 +1,27 @@
 -- `pass::shift::step3` meets its contract. Assumes nothing.
 use native.Mathlib.Omega.{arith}
 use borrow.Author.Tests.{not-true, not-false}
-use Rattle.pass.specs.Pass.{stepAt}
+use Rattle.matrix.specs.Vectors.{three}
+use Rattle.householder.specs.Axis.{told}
+use Rattle.pass.proofs.Stepping.{step-none, step-made}
 use Rattle.pass.proofs.shift.step3.Statement.{statement}
 use Rattle.pass.proofs.shift.step3.Tie as tie
 
+returns : tie.Need-returns
+returns c =
+    let axis = c .before .before .reflection-axis3 in
+    step-none _ _ _ _ _ (told (three (axis .result .axis)) (axis .result .norm) (axis .result .reflected)) (axis .ensures) (not-true (axis .result .reflected) (c .if1 .taken))
+
+returns-2 : tie.Need-returns-2
+returns-2 c =
+    let reflected = c .before .before .before .before in
+    let counted = reflected .before in
+    let swept = counted .before .before .before .before .before in
+    let goes = swept .before .before in
+    let axis = goes .before .before .reflection-axis3 in
+    step-made _ _ _ _ _ (told (three (axis .result .axis)) (axis .result .norm) (axis .result .reflected)) _ _ _ (axis .ensures) (not-false (axis .result .reflected) (goes .if1 .left))
+    (swept .sweep3 .ensures) (counted .rows-at .ensures) (reflected .reflect-at3 .ensures)
+
 pub step3-spec : {M : Type 1} → statement M
-unfolding stepAt
-step3-spec = tie.close (tie.spec (λ c κs. omega arith)
-    (λ c. rw (← c .before .before .reflection-axis3 .ensures, not-true (c .before .before .reflection-axis3 .result .reflected) (c .if1 .taken)))
-    (λ c κs. omega arith) (λ c κs. omega arith) (λ c. omega arith) (λ c. omega arith)
-    (λ c. rw (← c .before .before .before .before .before .before .before .before .before .before .before .before .before .reflection-axis3 .ensures, not-false (c .before .before .before .before .before .before .before .before .before .before .before .before .before .reflection-axis3 .result .reflected) (c .before .before .before .before .before .before .before .before .before .before .before .if1 .left), ← c .before .before .before .before .before .before .before .before .before .sweep3 .ensures, ← c .before .before .before .before .reflect-at3 .ensures)))
+step3-spec = tie.close (tie.spec (λ c κs. omega arith) returns (λ c κs. omega arith) (λ c κs. omega arith) (λ c κs. omega arith) (λ c. omega arith) (λ c. omega arith)
+    returns-2)
