@@ -77,7 +77,7 @@ unfolding splitAt
 splitAt-t b d asked k p r h =
     let n = asked .order in
     let turned : Bool → Pair → Pair = λ wanted p.
-        (let x = basisOf (blockAt n k (p .t)) in pair (turnedT n k x (p .t)) (onQ wanted (turnedQ n k x) (p .q))) in
+    (let x = basisOf (blockAt n k (p .t)) in pair (turnedT n k x (p .t)) (onQ wanted (turnedQ n k x) (p .q))) in
     either (turned b p) p (turned d r) r (blockFits n (length (p .t)) (k + 2) (k + 2)) (ap (λ t. turnedT n k (basisOf (blockAt n k t)) t) h) h
     ∙ ap (λ t. cond (blockFits n (length t) (k + 2) (k + 2)) (turned d r) r .t) h
 
@@ -85,6 +85,6 @@ pub orderTwo-t : (b d : Bool) (asked : Setting) (p r : Pair) → p .t ≡ r .t �
 unfolding orderTwo
 orderTwo-t b d asked p r h =
     let made : Bool → Pair → Pair = λ wanted p.
-        (let x = basisOf (blockAt 2 0 (p .t)) in pair (turnedT 2 0 x (p .t)) (onQ wanted (columnsIn x) (p .q))) in
+    (let x = basisOf (blockAt 2 0 (p .t)) in pair (turnedT 2 0 x (p .t)) (onQ wanted (columnsIn x) (p .q))) in
     either (made b p) p (made d r) r (eqb (length (p .t)) 4) (ap (λ t. turnedT 2 0 (basisOf (blockAt 2 0 t)) t) h) h
     ∙ ap (λ t. cond (eqb (length t) 4) (made d r) r .t) h

@@ -1,6 +1,6 @@
 -- What a run answers, told of the state at which it stopped, and what its test of the arguments tells. Assumes nothing.
 use Prim.Native.Nat.{ℕ, _*_, _≤_}
-use mathlib.Core.Bool.{Bool, true, false, cond, not, _||_}
+use mathlib.Core.Bool.{Bool, true, false, cond}
 use mathlib.Core.Logic.{_≢_}
 use mathlib.Core.Path.{_≡_, sym, ap, _∙_}
 use borrow.Author.Tests.{eq-eqb, ne-eqb, leb-true, eqb-true}
@@ -39,16 +39,15 @@ pub record RunFits (n tn wn : ℕ) : Type 0 where
   pub size : tn ≡ n * n
   pub room : wn ≡ 2 * n
 
-pub run-fitting : (wanted : Bool) (n tn qn wn : ℕ) → runFits wanted n tn qn wn ≡ true → RunFits n tn wn
+pub run-fitting : (n tn wn : ℕ) → runFits n tn wn ≡ true → RunFits n tn wn
 unfolding runFits
-run-fitting wanted n tn qn wn h =
+run-fitting n tn wn h =
     let a = both _ _ h in
     let b = both _ _ (a .1) in
-    let d = both (not wanted || eqb qn (n * n)) (eqb wn (2 * n)) (b .1) in
     let f = fits n tn n n (b .0) in
     record {
       some = leb-true _ _ (a .0);
       order = f .order;
       size = f .size;
-      room = eqb-true _ _ (d .1);
+      room = eqb-true _ _ (b .1);
     }

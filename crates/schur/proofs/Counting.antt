@@ -7,58 +7,50 @@ use native.Mathlib.Decide.{decLt}
 use native.Mathlib.Omega.{arith}
 use lib.Dec.{eqb, leb}
 use lib.Ieee.{Float}
+use Rattle.loops.specs.Counted.{Counted, open-count, count-most}
 use Rattle.loops.specs.Tests.{cond-hold, cond-both}
-use Rattle.loops.specs.Until.{until-count, until-walk}
 use Rattle.matrix.specs.Vectors.{largest}
 use Rattle.window.specs.declared.Window.{Window}
+use Rattle.pass.specs.declared.setting.Setting.{Setting}
 use Rattle.pass.specs.Pair.{Pair}
-use Rattle.schur.specs.declared.run.State.{State}
 use Rattle.schur.specs.declared.run.Ran.{Ran}
 use Rattle.schur.specs.declared.run.Ran.the-variants.{Ended, BudgetReached, Unfit}
-use Rattle.schur.specs.Run.{Running, closed, after, turnTwo, turnMore, turnOf, runFrom, opened, Left, answered, ranOf, countOf}
+use Rattle.schur.specs.Run.{Running, passesAt, closed, delimiting, after, turnTwo, turnMore, turnOf, runFrom, opened, Left, answered, ranOf, countOf}
 use Rattle.schur.proofs.Answering.{answered-reached, answered-ended}
 
--- ---- one turn counts 1 at most
+-- ---- a turn counts 1, or it closes the window and goes uncounted
 
-turnTwo-counts : (wanted : Bool) (n : ℕ) (eps : Float) (s : State) (p : Pair) → turnTwo wanted n eps s p .state .passes ≤ s .passes + 1
-unfolding turnTwo after
-turnTwo-counts wanted n eps s p = cond-hold (λ (r : Running). r .state .passes ≤ s .passes + 1) (leb (s .window .end) 2) _ _ (λ _. omega arith) (omega arith)
+data Turned (r x : Running) : Type 0 where
+  counts : passesAt x ≡ passesAt r + 1 → Turned r x
+  ends : passesAt x ≡ passesAt r → closed x ≡ true → Turned r x
 
-turnMore-counts : (wanted : Bool) (n : ℕ) (eps : Float) (s : State) (p : Pair) → turnMore wanted n eps s p .state .passes ≤ s .passes + 1
-unfolding turnMore after
-turnMore-counts wanted n eps s p = omega arith
+turned : (asked : Setting) (r : Running) → Turned r (turnOf asked r)
+unfolding turnOf turnTwo turnMore after delimiting closed
+turned asked r =
+    cond-both (Turned r) (leb (r .state .window .end) (r .state .window .start + 1)) _ _
+    (λ _. cond-both (Turned r) (leb (r .state .window .end) 2) _ _ (λ _. ends refl refl) (λ _. counts refl)) (λ _. counts refl)
 
-turn-counts : (wanted : Bool) (n : ℕ) (eps : Float) (r : Running) → turnOf wanted n eps r .state .passes ≤ r .state .passes + 1
-unfolding turnOf
-turn-counts wanted n eps r =
-    cond-hold (λ (x : Running). x .state .passes ≤ r .state .passes + 1) (leb (r .state .window .end) (r .state .window .start + 1)) _ _
-    (λ _. turnTwo-counts wanted n eps (r .state) (r .pair)) (turnMore-counts wanted n eps (r .state) (r .pair))
+-- all that is known of a run by its count follows from this (`Counted` in loops)
+pub run-counts : (asked : Setting) → Counted closed (turnOf asked) passesAt
+run-counts asked = record {
+  least = λ x. elim (turned asked x) [ counts e ↦ omega arith | ends e _ ↦ omega arith ];
+  most = λ x. elim (turned asked x) [ counts e ↦ omega arith | ends e _ ↦ omega arith ];
+  going = λ x still. elim (turned asked x) [ counts e ↦ e | ends _ c ↦ absurd (true≢false (sym c ∙ still)) ];
+}
 
-pub opened-none : (wanted : Bool) (n : ℕ) (eps : Float) (w : List Float) (p : Pair) → opened wanted n eps w p .state .passes ≡ 0
-unfolding opened after
-opened-none wanted n eps w p = refl
+pub opened-none : (asked : Setting) (w : List Float) (p : Pair) → passesAt (opened asked w p) ≡ 0
+unfolding opened delimiting
+opened-none asked w p = refl
 
--- a turn counts 1, or closes the window
-turn-counted : (wanted : Bool) (n : ℕ) (eps : Float) (r : Running) → closed (turnOf wanted n eps r) ≡ false → turnOf wanted n eps r .state .passes ≡ r .state .passes + 1
-unfolding turnOf turnTwo turnMore after closed
-turn-counted wanted n eps r =
-    cond-both (λ x. closed x ≡ false → x .state .passes ≡ r .state .passes + 1) (leb (r .state .window .end) (r .state .window .start + 1)) _ _
-    (λ _. cond-both (λ x. closed x ≡ false → x .state .passes ≡ r .state .passes + 1) (leb (r .state .window .end) 2) _ _ (λ _ d. absurd (true≢false d)) (λ _ d. refl))
-    (λ _ d. refl)
-
--- so a run whose window is still open has counted all its turns
-pub run-counted : (wanted : Bool) (n : ℕ) (eps : Float) (budget : ℕ) (r : Running) → r .state .passes ≡ 0 → closed (runFrom wanted n eps budget r) ≡ false
-    → runFrom wanted n eps budget r .state .passes ≡ budget
+-- the run's passes are the budget at most
+within : (asked : Setting) (budget : ℕ) (w : List Float) (p : Pair) → passesAt (runFrom asked budget (opened asked w p)) ≤ budget
 unfolding runFrom
-run-counted wanted n eps budget r first =
-    until-walk (λ m x. closed x ≡ false → x .state .passes ≡ m) closed (turnOf wanted n eps) budget r (λ m l d h still. absurd (true≢false (sym d ∙ still)))
-    (λ m l d h still. turn-counted wanted n eps _ still ∙ ap (λ k. k + 1) (h d)) (λ _. first)
+within asked budget w p = omega (arith, opened-none asked w p, count-most (run-counts asked) budget (opened asked w p))
 
--- so the run's passes are the budget at most
-within : (wanted : Bool) (n : ℕ) (eps : Float) (budget : ℕ) (w : List Float) (p : Pair) → runFrom wanted n eps budget (opened wanted n eps w p) .state .passes ≤ budget
+-- a run whose window is still open has counted its whole budget
+pub run-counted : (asked : Setting) (budget : ℕ) (r : Running) → passesAt r ≡ 0 → closed (runFrom asked budget r) ≡ false → passesAt (runFrom asked budget r) ≡ budget
 unfolding runFrom
-within wanted n eps budget w p =
-    omega (arith, opened-none wanted n eps w p, until-count (λ r. r .state .passes) closed (turnOf wanted n eps) budget (opened wanted n eps w p) (turn-counts wanted n eps))
+run-counted asked budget r first still = omega (arith, first, open-count (run-counts asked) budget r still)
 
 -- ---- the two answers
 
@@ -80,23 +72,23 @@ tells-cond false h k = k
 
 -- ---- every run
 
-module _ (wanted : Bool) (n : ℕ) (eps : Float) (budget : ℕ) (p : Pair) (w : List Float) where
+module _ (asked : Setting) (budget : ℕ) (p : Pair) (w : List Float) where
   abbrev answer : Ran
-  answer = ranOf wanted n eps budget p w .answer
+  answer = ranOf asked budget p w .answer
 
   abbrev count : ℕ
-  count = countOf wanted n eps budget p w
+  count = countOf asked budget p w
 
   -- never above the budget
   pub count-within : count ≤ budget
   unfolding countOf
-  count-within = cond-hold (λ k. k ≤ budget) (eqb n 1) _ _ (λ _. omega arith) (cond-hold (λ k. k ≤ budget) (eqb n 2) _ _ (λ _. omega arith) (within wanted n eps budget w p))
+  count-within = cond-hold (λ k. k ≤ budget) (eqb (asked .order) 1) _ _ (λ _. omega arith) (cond-hold (λ k. k ≤ budget) (eqb (asked .order) 2) _ _ (λ _. omega arith) (within asked budget w p))
 
-  pub ran-tells : Tells (ranOf wanted n eps budget p w) count budget
+  pub ran-tells : Tells (ranOf asked budget p w) count budget
   unfolding ranOf countOf
   ran-tells =
-      tells-cond (eqb n 1) (ended (λ l. omega arith) refl)
-      (tells-cond (eqb n 2) (ended (λ l. omega arith) refl) (answered-tells budget (largest (p .t)) _ (within wanted n eps budget w p)))
+      tells-cond (eqb (asked .order) 1) (ended (λ l. omega arith) refl)
+      (tells-cond (eqb (asked .order) 2) (ended (λ l. omega arith) refl) (answered-tells budget (largest (p .t)) _ (within asked budget w p)))
 
   -- ended: with the count, which is below every budget that is not 0; and the other way round
   pub ended-count : {c : ℕ} → answer ≡ Ended c → c ≡ count

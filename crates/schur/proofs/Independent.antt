@@ -8,13 +8,18 @@ use lib.ListN.{length}
 use lib.Ieee.{Float}
 use Rattle.loops.specs.Until.{until-both}
 use Rattle.matrix.specs.Vectors.{largest, scaled}
+use Rattle.window.specs.declared.Window.{Window}
 use Rattle.window.specs.Window.{delimitOf}
+use Rattle.pass.specs.declared.setting.Setting.{Setting}
+use Rattle.pass.specs.Setting.{wanting}
 use Rattle.pass.specs.Pair.{Pair, pair}
 use Rattle.pass.specs.Pass.{passOf}
 use Rattle.pass.specs.Block.{splitAt}
 use Rattle.pass.proofs.Independent.{passOf-t, splitAt-t, orderTwo-t}
 use Rattle.schur.specs.declared.run.State.{State}
-use Rattle.schur.specs.Run.{Running, running, closed, after, turnTwo, turnMore, turnOf, runFrom, scaledDown, reducedPair, opened, Left, answered, runFits, ranOf, runOf}
+use Rattle.schur.specs.Run.{Running, running, state, closed, delimiting, after, turnTwo, turnMore, turnOf, runFrom, scaledDown, reducedPair, opened, Left, answered, runFits, ranOf, runOf}
+
+-- In all that follows one setting is asked for, but that Q is wanted as b says, or as d does.
 
 -- ---- the run: two runs stand alike if window, count and T are the same
 
@@ -26,43 +31,53 @@ alike-cond : {x x' y y' : Running} (b : Bool) → Alike x y → Alike x' y' → 
 alike-cond true h k = h
 alike-cond false h k = k
 
-after-alike : (n : ℕ) (eps : Float) (e passes : ℕ) (p r : Pair) → p .t ≡ r .t → Alike (after n eps e passes p) (after n eps e passes r)
+delimiting-alike : (b d : Bool) (asked : Setting) (e : ℕ) (stands : Window → State) (p r : Pair) → p .t ≡ r .t
+    → Alike (delimiting (wanting b asked) e stands p) (delimiting (wanting d asked) e stands r)
+unfolding delimiting
+delimiting-alike b d asked e stands p r h =
+    let to : List Float → Running = λ t. delimiting asked e stands (pair t (r .q)) in
+    record { state = ap (λ t. to t .state) h; t = ap (λ t. to t .pair .t) h }
+
+after-alike : (b d : Bool) (asked : Setting) (e : ℕ) (s : State) (p r : Pair) → p .t ≡ r .t → Alike (after (wanting b asked) e s p) (after (wanting d asked) e s r)
 unfolding after
-after-alike n eps e passes p r h = record { state = ap (λ t. after n eps e passes (pair t (r .q)) .state) h; t = ap (λ t. delimitOf n eps e t .t) h }
+after-alike b d asked e s p r h = delimiting-alike b d asked e (λ w. state w (s .passes + 1)) p r h
 
-turnTwo-alike : (b d : Bool) (n : ℕ) (eps : Float) (s : State) (p r : Pair) → p .t ≡ r .t → Alike (turnTwo b n eps s p) (turnTwo d n eps s r)
+turnTwo-alike : (b d : Bool) (asked : Setting) (s : State) (p r : Pair) → p .t ≡ r .t → Alike (turnTwo (wanting b asked) s p) (turnTwo (wanting d asked) s r)
 unfolding turnTwo
-turnTwo-alike b d n eps s p r h =
+turnTwo-alike b d asked s p r h =
     let k = s .window .start in
-    let split = splitAt-t b d n k p r h in
-    alike-cond (leb (s .window .end) 2) (record { state = refl; t = split }) (after-alike n eps (s .window .end - 2) (s .passes + 1) (splitAt b n k p) (splitAt d n k r) split)
+    let split = splitAt-t b d asked k p r h in
+    alike-cond (leb (s .window .end) 2) (record { state = refl; t = split })
+    (after-alike b d asked (s .window .end - 2) s (splitAt (wanting b asked) k p) (splitAt (wanting d asked) k r) split)
 
-turnMore-alike : (b d : Bool) (n : ℕ) (eps : Float) (s : State) (p r : Pair) → p .t ≡ r .t → Alike (turnMore b n eps s p) (turnMore d n eps s r)
+turnMore-alike : (b d : Bool) (asked : Setting) (s : State) (p r : Pair) → p .t ≡ r .t → Alike (turnMore (wanting b asked) s p) (turnMore (wanting d asked) s r)
 unfolding turnMore
-turnMore-alike b d n eps s p r h =
-    after-alike n eps (s .window .end) (s .passes + 1) (passOf b n (s .window) p) (passOf d n (s .window) r) (passOf-t b d n (s .window) p r h)
+turnMore-alike b d asked s p r h =
+    after-alike b d asked (s .window .end) s (passOf (wanting b asked) (s .window) p) (passOf (wanting d asked) (s .window) r) (passOf-t b d asked (s .window) p r h)
 
-turnFrom-alike : (b d : Bool) (n : ℕ) (eps : Float) (s : State) (p r : Pair) → p .t ≡ r .t → Alike (turnOf b n eps (running s p)) (turnOf d n eps (running s r))
+turnFrom-alike : (b d : Bool) (asked : Setting) (s : State) (p r : Pair) → p .t ≡ r .t
+    → Alike (turnOf (wanting b asked) (running s p)) (turnOf (wanting d asked) (running s r))
 unfolding turnOf
-turnFrom-alike b d n eps s p r h = alike-cond (leb (s .window .end) (s .window .start + 1)) (turnTwo-alike b d n eps s p r h) (turnMore-alike b d n eps s p r h)
+turnFrom-alike b d asked s p r h = alike-cond (leb (s .window .end) (s .window .start + 1)) (turnTwo-alike b d asked s p r h) (turnMore-alike b d asked s p r h)
 
-turnOf-alike : (b d : Bool) (n : ℕ) (eps : Float) (x y : Running) → Alike x y → Alike (turnOf b n eps x) (turnOf d n eps y)
-turnOf-alike b d n eps x y a =
-    let turned = turnFrom-alike b d n eps (x .state) (x .pair) (y .pair) (a .t) in
-    let there = ap (λ s. turnOf d n eps (running s (y .pair))) (a .state) in
+turnOf-alike : (b d : Bool) (asked : Setting) (x y : Running) → Alike x y → Alike (turnOf (wanting b asked) x) (turnOf (wanting d asked) y)
+turnOf-alike b d asked x y a =
+    let turned = turnFrom-alike b d asked (x .state) (x .pair) (y .pair) (a .t) in
+    let there = ap (λ s. turnOf (wanting d asked) (running s (y .pair))) (a .state) in
     record { state = turned .state ∙ ap (λ r. r .state) there; t = turned .t ∙ ap (λ r. r .pair .t) there }
 
-runFrom-alike : (b d : Bool) (n : ℕ) (eps : Float) (budget : ℕ) (x y : Running) → Alike x y → Alike (runFrom b n eps budget x) (runFrom d n eps budget y)
+runFrom-alike : (b d : Bool) (asked : Setting) (budget : ℕ) (x y : Running) → Alike x y → Alike (runFrom (wanting b asked) budget x) (runFrom (wanting d asked) budget y)
 unfolding runFrom closed
-runFrom-alike b d n eps budget x y a =
-    until-both Alike closed (turnOf b n eps) closed (turnOf d n eps) budget x y
+runFrom-alike b d asked budget x y a =
+    until-both Alike closed (turnOf (wanting b asked)) closed (turnOf (wanting d asked)) budget x y
     (λ u v k. ap (λ s. eqb (s .window .start) (s .window .end)) (k .state))
-    (turnOf-alike b d n eps)
+    (turnOf-alike b d asked)
     a
 
-opened-alike : (b d : Bool) (n : ℕ) (eps : Float) (w : List Float) (p r : Pair) → p .t ≡ r .t → Alike (opened b n eps w p) (opened d n eps w r)
+opened-alike : (b d : Bool) (asked : Setting) (w : List Float) (p r : Pair) → p .t ≡ r .t → Alike (opened (wanting b asked) w p) (opened (wanting d asked) w r)
 unfolding opened reducedPair
-opened-alike b d n eps w p r h = after-alike n eps (n - 1) 0 _ _ (ap (λ t. reducedPair d n w (pair (scaledDown t) (r .q)) .t) h)
+opened-alike b d asked w p r h =
+    delimiting-alike b d asked (asked .order - 1) (λ v. state v 0) _ _ (ap (λ t. reducedPair asked w (pair (scaledDown t) (r .q)) .t) h)
 
 -- ---- what is answered and left
 
@@ -85,16 +100,18 @@ answered-same budget amax x y a =
     let there = ap (λ s. answered budget amax (running s (y .pair))) (a .state) in
     record { answer = here .answer ∙ ap (λ r. r .answer) there; t = here .t ∙ ap (λ r. r .pair .t) there }
 
-pub ranOf-same : (b d : Bool) (n : ℕ) (eps : Float) (budget : ℕ) (t q q' w : List Float) → Same (ranOf b n eps budget (pair t q) w) (ranOf d n eps budget (pair t q') w)
+pub ranOf-same : (b d : Bool) (asked : Setting) (budget : ℕ) (t q q' w : List Float)
+    → Same (ranOf (wanting b asked) budget (pair t q) w) (ranOf (wanting d asked) budget (pair t q') w)
 unfolding ranOf
-ranOf-same b d n eps budget t q q' w =
-    same-cond (eqb n 1) (record { answer = refl; t = refl })
-    (same-cond (eqb n 2) (record { answer = refl; t = orderTwo-t b d (pair t q) (pair t q') refl })
-    (answered-same budget (largest t) _ _ (runFrom-alike b d n eps budget _ _ (opened-alike b d n eps w (pair t q) (pair t q') refl))))
+ranOf-same b d asked budget t q q' w =
+    same-cond (eqb (asked .order) 1) (record { answer = refl; t = refl })
+    (same-cond (eqb (asked .order) 2) (record { answer = refl; t = orderTwo-t b d asked (pair t q) (pair t q') refl })
+    (answered-same budget (largest t) _ _ (runFrom-alike b d asked budget _ _ (opened-alike b d asked w (pair t q) (pair t q') refl))))
 
--- Two runs on one matrix, with one tolerance, budget and workspace: whether Q is wanted or not, and whatever is lent for it, if only it fits, they
--- answer the same (the count, or the window at which the budget was reached) and leave the same T.
-pub q-not-felt : (b d : Bool) (n : ℕ) (eps : Float) (budget : ℕ) (t q q' w : List Float) → runFits b n (length t) (length q) (length w) ≡ true
-    → runFits d n (length t) (length q') (length w) ≡ true → Same (runOf b n eps budget (pair t q) w) (runOf d n eps budget (pair t q') w)
+-- Two runs on one matrix, with one tolerance, budget and workspace: whether Q is wanted or not, and whatever is lent for it, they answer the same (the
+-- count, or the window at which the budget was reached) and leave the same T.
+pub q-not-felt : (b d : Bool) (asked : Setting) (budget : ℕ) (t q q' w : List Float)
+    → Same (runOf (wanting b asked) budget (pair t q) w) (runOf (wanting d asked) budget (pair t q') w)
 unfolding runOf
-q-not-felt b d n eps budget t q q' w h k = rw (h, k) (ranOf-same b d n eps budget t q q' w)
+q-not-felt b d asked budget t q q' w =
+    same-cond (runFits (asked .order) (length t) (length w)) (ranOf-same b d asked budget t q q' w) (record { answer = refl; t = refl })

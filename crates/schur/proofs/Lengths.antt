@@ -15,44 +15,50 @@ use Rattle.matrix.proofs.Each.{eachTo-length, filled-length}
 use Rattle.hessenberg.specs.Reduced.{reduced}
 use Rattle.hessenberg.specs.Unpacked.{unpackedQ}
 use Rattle.hessenberg.proofs.Frames.{reduced-length, unpackedH-length, unpackedQ-length}
+use Rattle.window.specs.declared.Window.{Window}
 use Rattle.window.specs.Window.{window}
 use Rattle.window.proofs.Lengths.{delimitOf-length}
 use Rattle.pass.specs.Pair.{Pair, pair, onQ}
 use Rattle.pass.specs.Pass.{passOf}
 use Rattle.pass.specs.Block.{splitAt, orderTwo}
 use Rattle.pass.proofs.Lengths.{AsLong, same-long, then-long, onQ-length, passOf-length, split-length, orderTwo-length}
+use Rattle.pass.specs.declared.setting.Setting.{Setting}
 use Rattle.schur.specs.declared.run.State.{State}
 use Rattle.schur.specs.declared.run.Ran.the-variants.{Ended, BudgetReached}
-use Rattle.schur.specs.Run.{Running, running, state, closed, after, turnTwo, turnMore, turnOf, runFrom, scaledDown, reducedPair, opened, Left, left, answered, ranOf}
+use Rattle.schur.specs.Run.{Running, running, state, closed, delimiting, after, turnTwo, turnMore, turnOf, runFrom, scaledDown, reducedPair, opened, Left, left, answered, ranOf}
 
 -- ---- one turn
 
-after-length : (n : ℕ) (eps : Float) (e passes : ℕ) (p : Pair) → AsLong p (after n eps e passes p .pair)
+delimiting-length : (asked : Setting) (e : ℕ) (stands : Window → State) (p : Pair) → AsLong p (delimiting asked e stands p .pair)
+unfolding delimiting
+delimiting-length asked e stands p = record { t = delimitOf-length (asked .order) (asked .tolerance) e (p .t); q = refl }
+
+after-length : (asked : Setting) (e : ℕ) (s : State) (p : Pair) → AsLong p (after asked e s p .pair)
 unfolding after
-after-length n eps e passes p = record { t = delimitOf-length n eps e (p .t); q = refl }
+after-length asked e s p = delimiting-length asked e _ p
 
-turnTwo-length : (wanted : Bool) (n : ℕ) (eps : Float) (s : State) (p : Pair) → AsLong p (turnTwo wanted n eps s p .pair)
+turnTwo-length : (asked : Setting) (s : State) (p : Pair) → AsLong p (turnTwo asked s p .pair)
 unfolding turnTwo
-turnTwo-length wanted n eps s p =
-    let parted = splitAt wanted n (s .window .start) p in
-    let long = split-length wanted n (s .window .start) p in
+turnTwo-length asked s p =
+    let parted = splitAt asked (s .window .start) p in
+    let long = split-length asked (s .window .start) p in
     cond-hold (λ (r : Running). AsLong p (r .pair)) (leb (s .window .end) 2) (running (state (window 0 0) (s .passes)) parted)
-    (after n eps (s .window .end - 2) (s .passes + 1) parted) (λ _. long) (then-long long (after-length n eps _ _ parted))
+    (after asked (s .window .end - 2) s parted) (λ _. long) (then-long long (after-length asked _ s parted))
 
-turnMore-length : (wanted : Bool) (n : ℕ) (eps : Float) (s : State) (p : Pair) → AsLong p (turnMore wanted n eps s p .pair)
+turnMore-length : (asked : Setting) (s : State) (p : Pair) → AsLong p (turnMore asked s p .pair)
 unfolding turnMore
-turnMore-length wanted n eps s p = then-long (passOf-length wanted n (s .window) p) (after-length n eps (s .window .end) (s .passes + 1) (passOf wanted n (s .window) p))
+turnMore-length asked s p = then-long (passOf-length asked (s .window) p) (after-length asked (s .window .end) s (passOf asked (s .window) p))
 
-turnOf-length : (wanted : Bool) (n : ℕ) (eps : Float) (r : Running) → AsLong (r .pair) (turnOf wanted n eps r .pair)
+turnOf-length : (asked : Setting) (r : Running) → AsLong (r .pair) (turnOf asked r .pair)
 unfolding turnOf
-turnOf-length wanted n eps r =
-    cond-hold (λ (x : Running). AsLong (r .pair) (x .pair)) (leb (r .state .window .end) (r .state .window .start + 1)) (turnTwo wanted n eps (r .state) (r .pair))
-    (turnMore wanted n eps (r .state) (r .pair)) (λ _. turnTwo-length wanted n eps (r .state) (r .pair)) (turnMore-length wanted n eps (r .state) (r .pair))
+turnOf-length asked r =
+    cond-hold (λ (x : Running). AsLong (r .pair) (x .pair)) (leb (r .state .window .end) (r .state .window .start + 1)) (turnTwo asked (r .state) (r .pair))
+    (turnMore asked (r .state) (r .pair)) (λ _. turnTwo-length asked (r .state) (r .pair)) (turnMore-length asked (r .state) (r .pair))
 
-runFrom-length : (wanted : Bool) (n : ℕ) (eps : Float) (budget : ℕ) (r : Running) → AsLong (r .pair) (runFrom wanted n eps budget r .pair)
+runFrom-length : (asked : Setting) (budget : ℕ) (r : Running) → AsLong (r .pair) (runFrom asked budget r .pair)
 unfolding runFrom
-runFrom-length wanted n eps budget r =
-    until-hold (λ x. AsLong (r .pair) (x .pair)) closed (turnOf wanted n eps) budget r (λ x h. then-long h (turnOf-length wanted n eps x)) (same-long (r .pair))
+runFrom-length asked budget r =
+    until-hold (λ x. AsLong (r .pair) (x .pair)) closed (turnOf asked) budget r (λ x h. then-long h (turnOf-length asked x)) (same-long (r .pair))
 
 -- ---- before the first turn, and after the last
 
@@ -60,21 +66,22 @@ pub scaledDown-length : (t : List Float) → length (scaledDown t) ≡ length t
 unfolding scaledDown unscaled
 scaledDown-length t = cond-hold (λ s. length s ≡ length t) (isZero (largest t)) t (unscaled (largest t) t) (λ _. refl) (eachTo-length _ _ t)
 
-reducedPair-length : (wanted : Bool) (n : ℕ) (w : List Float) (p : Pair) → AsLong p (reducedPair wanted n w p)
+reducedPair-length : (asked : Setting) (w : List Float) (p : Pair) → AsLong p (reducedPair asked w p)
 unfolding reducedPair
-reducedPair-length wanted n w p =
+reducedPair-length asked w p =
+    let n = asked .order in
     let r = reduced n (p .t) w in
     record {
       t = unpackedH-length n (r .work) (r .matrix) ∙ reduced-length n (p .t) w;
-      q = onQ-length wanted (unpackedQ n (r .matrix) (r .work)) (p .q) (unpackedQ-length n (r .matrix) (r .work) (p .q));
+      q = onQ-length (asked .wanted) (unpackedQ n (r .matrix) (r .work)) (p .q) (unpackedQ-length n (r .matrix) (r .work) (p .q));
     }
 
-opened-length : (wanted : Bool) (n : ℕ) (eps : Float) (w : List Float) (p : Pair) → AsLong p (opened wanted n eps w p .pair)
+opened-length : (asked : Setting) (w : List Float) (p : Pair) → AsLong p (opened asked w p .pair)
 unfolding opened
-opened-length wanted n eps w p =
+opened-length asked w p =
     let down = pair (scaledDown (p .t)) (p .q) in
     then-long (record { t = scaledDown-length (p .t); q = refl })
-    (then-long (reducedPair-length wanted n w down) (after-length n eps (n - 1) 0 (reducedPair wanted n w down)))
+    (then-long (reducedPair-length asked w down) (delimiting-length asked (asked .order - 1) (λ v. state v 0) (reducedPair asked w down)))
 
 answered-length : (budget : ℕ) (amax : Float) (r : Running) → AsLong (r .pair) (answered budget amax r .pair)
 unfolding answered scaled
@@ -84,12 +91,12 @@ answered-length budget amax r =
 
 -- ---- every run
 
-pub ran-length : (wanted : Bool) (n : ℕ) (eps : Float) (budget : ℕ) (p : Pair) (w : List Float) → AsLong p (ranOf wanted n eps budget p w .pair)
+pub ran-length : (asked : Setting) (budget : ℕ) (p : Pair) (w : List Float) → AsLong p (ranOf asked budget p w .pair)
 unfolding ranOf
-ran-length wanted n eps budget p w =
-    let r = opened wanted n eps w p in
-    let whole = answered budget (largest (p .t)) (runFrom wanted n eps budget r) in
-    cond-hold (λ (l : Left). AsLong p (l .pair)) (eqb n 1) (left (Ended 0) (pair (p .t) (onQ wanted (filled one) (p .q)))) _
-    (λ _. record { t = refl; q = onQ-length wanted (filled one) (p .q) (filled-length one (p .q)) })
-    (cond-hold (λ (l : Left). AsLong p (l .pair)) (eqb n 2) (left (Ended 0) (orderTwo wanted p)) whole (λ _. orderTwo-length wanted p)
-    (then-long (then-long (opened-length wanted n eps w p) (runFrom-length wanted n eps budget r)) (answered-length budget _ (runFrom wanted n eps budget r))))
+ran-length asked budget p w =
+    let r = opened asked w p in
+    let whole = answered budget (largest (p .t)) (runFrom asked budget r) in
+    cond-hold (λ (l : Left). AsLong p (l .pair)) (eqb (asked .order) 1) (left (Ended 0) (pair (p .t) (onQ (asked .wanted) (filled one) (p .q)))) _
+    (λ _. record { t = refl; q = onQ-length (asked .wanted) (filled one) (p .q) (filled-length one (p .q)) })
+    (cond-hold (λ (l : Left). AsLong p (l .pair)) (eqb (asked .order) 2) (left (Ended 0) (orderTwo asked p)) whole (λ _. orderTwo-length asked p)
+    (then-long (then-long (opened-length asked w p) (runFrom-length asked budget r)) (answered-length budget _ (runFrom asked budget r))))

@@ -4,4 +4,3 @@ pub mod Independent
 pub mod Counting
 pub mod Lengths
 mod Answering
-mod Turning

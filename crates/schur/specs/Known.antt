@@ -14,18 +14,19 @@ use Rattle.givens.specs.Rotated.{turnedRows, rotated, turnedColumns, rotatedRow
 use Rattle.hessenberg.specs.Known.{openedHess}
 use Rattle.schur.specs.declared.run.Ran.{Ran}
 use Rattle.schur.specs.declared.run.Ran.the-variants.{Ended, BudgetReached, Unfit}
+use Rattle.pass.specs.Setting.{setting}
 use Rattle.pass.specs.Pair.{pair}
 use Rattle.window.specs.Window.{small, stands, fall, endFrom, cut, startFrom, delimitHere, delimitOf}
 use Rattle.pass.specs.Pass.{firstColumn, bulge, bulgeEnd, swept, sweptPast, columnAt, reflectedAt, stepAt, chased, closing, passHere, passOf}
-use Rattle.pass.specs.Block.{blockAt, discriminant, eigvalsOf, basisBy, basisOf, turnedBy, splitAt, columnsOf, columnsIn, orderTwo}
-use Rattle.schur.specs.Run.{Left, closed, after, turnTwo, turnMore, turnOf, runFrom, scaledDown, reducedPair, opened, answered, runFits, ranOf, runOf}
+use Rattle.pass.specs.Block.{blockAt, discriminant, eigvalsOf, basisBy, basisOf, turnedT, turnedQ, splitAt, columnsOf, columnsIn, orderTwo}
+use Rattle.schur.specs.Run.{Left, closed, delimiting, after, turnTwo, turnMore, turnOf, runFrom, scaledDown, reducedPair, opened, answered, runFits, ranOf, runOf}
 
 -- every definition that a case computes with
 unfoldable pub openedSchur : Unit {0}
 unfolding openedHess until sub lengthOf signedLength tryNew orIdentity newOf turnedRows rotated turnedColumns rotatedRows
     small stands fall endFrom cut startFrom delimitHere delimitOf firstColumn bulge bulgeEnd swept sweptPast columnAt reflectedAt stepAt chased closing passHere passOf
-    blockAt discriminant eigvalsOf basisBy basisOf turnedBy splitAt columnsOf columnsIn orderTwo
-    closed after turnTwo turnMore turnOf runFrom scaledDown reducedPair opened answered runFits ranOf runOf neg eq lt le
+    blockAt discriminant eigvalsOf basisBy basisOf turnedT turnedQ splitAt columnsOf columnsIn orderTwo
+    closed delimiting after turnTwo turnMore turnOf runFrom scaledDown reducedPair opened answered runFits ranOf runOf neg eq lt le
 openedSchur = tt
 
 -- 1 and the count; 2 with the window's start and end; 3 where something does not fit
@@ -51,7 +52,7 @@ case n eps budget t = record { order = n; eps = eps; budget = budget; matrix = t
 
 -- the workspace is full of ones
 ran : Bool → List ℕ → Case → Left
-ran wanted q c = runOf wanted (c .order) (ofBits binary64 (c .eps)) (c .budget) (pair (read (c .matrix)) (read q)) (times (λ _ w. one ∷ w) (2 * c .order) [])
+ran wanted q c = runOf (setting (c .order) wanted (ofBits binary64 (c .eps))) (c .budget) (pair (read (c .matrix)) (read q)) (times (λ _ w. one ∷ w) (2 * c .order) [])
 
 -- with Q, in which something stands, and without
 withQ : Case → List (List ℕ)
@@ -160,9 +161,9 @@ reached : map (λ c. answerOf (ran false [] c .answer)) (
 unfolding openedSchur case ran usual answerOf
 reached = refl
 
--- ---- what does not fit: orders 0 and 65, Q wanted and not there; then a workspace of another length
+-- ---- what does not fit: orders 0 and 65, order 2 of a T with one entry; then a workspace of another length
 
-misfits : map (λ n. answerOf (runOf true n epsilon 9 (pair (one ∷ []) []) (one ∷ one ∷ []) .answer)) (0 ∷ 65 ∷ 1 ∷ []) ∷ (answerOf (runOf false 1 epsilon 9 (pair (one ∷ []) []) (one ∷ []) .answer) ∷ []) ∷ []
+misfits : map (λ n. answerOf (runOf (setting n true epsilon) 9 (pair (one ∷ []) []) (one ∷ one ∷ []) .answer)) (0 ∷ 65 ∷ 2 ∷ []) ∷ (answerOf (runOf (setting 1 false epsilon) 9 (pair (one ∷ []) []) (one ∷ []) .answer) ∷ []) ∷ []
     ≡ ((3 ∷ []) ∷ (3 ∷ []) ∷ (3 ∷ []) ∷ []) ∷ ((3 ∷ []) ∷ []) ∷ []
 unfolding openedSchur answerOf
 misfits = refl

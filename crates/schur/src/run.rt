@@ -1,15 +1,16 @@
 // The run: opened, then turn after turn until the window has closed or the counted passes have reached the
 // budget. T is t, Q is q; q is rewritten only where it is wanted.
 ghost use mathlib.Core.Path.{_≡_};
-ghost use mathlib.Core.Bool.{not, _||_};
-ghost use lib.Dec.{eqb};
+ghost use mathlib.Core.List.{List};
 ghost use lib.ListN.{length};
+ghost use lib.Ieee.{Float};
 ghost use Prim.Native.Nat.{_+_, _*_, _<_, _≤_};
 ghost use Rattle.loops.specs.Constants.{one};
 ghost use Rattle.matrix.specs.Vectors.{largest, filled};
 ghost use Rattle.hessenberg.specs.Unpacked.{unpackedQ};
 ghost use Rattle.pass.specs.Pair.{pair, onQ};
-ghost use Rattle.schur.specs.Run.{running, turnTwo, turnMore, turnOf, runFrom, scaledDown, reducedPair, opened, left, answered, runFits, ranOf, runOf, workAfter};
+ghost use Rattle.schur.specs.Run.{running, after, turnTwo, turnMore, turnOf, runFrom, scaledDown, reducedPair, opened, left, answered, runFits, ranOf, runOf, workAfter};
+use pass::Setting;
 use window::Window;
 use window::delimit_subproblem;
 
@@ -27,77 +28,81 @@ pub enum Ran {
     Unfit,
 }
 
-// A window of two. After the one at the beginning of the matrix the run ends, and that is not counted.
-fn turn_two(s: State, t: &mut [f64], q: &mut [f64], n: usize, wanted: bool, eps: f64) -> State
-    requires { ⌜ (n ≤ 64) × (length (now t) ≡ n * n) × (s .window .start + 1 ≡ s .window .end) × (s .window .end < n) × (s .passes < 18446744073709551615) ⌝ }
-    ensures { λ r. ⌜ running r (pair (now (t .exit)) (now (q .exit))) ≡ turnTwo wanted n eps s (pair (now (t .entry)) (now (q .entry))) ⌝ }
-    ensures { λ r. ⌜ (r .window .end < n) × (r .window .start ≤ r .window .end) × (r .passes ≤ s .passes + 1) ⌝ }
-{
-    let start = s.window.start;
-    let end = s.window.end;
-    pass::split(t, q, n, wanted, start);
-    if end <= 2 {
-        return State {
-            window: Window { start: 0, end: 0 },
-            passes: s.passes,
-        };
-    }
-    State {
-        window: delimit_subproblem(t, n, eps, end - 2),
-        passes: s.passes + 1,
-    }
-}
-
-// A window of three or more.
-fn turn_more(s: State, t: &mut [f64], q: &mut [f64], n: usize, wanted: bool, eps: f64) -> State
-    requires { ⌜ (n ≤ 64) × (length (now t) ≡ n * n) × (s .window .start + 2 ≤ s .window .end) × (s .window .end < n) × (s .passes < 18446744073709551615) ⌝ }
-    ensures { λ r. ⌜ running r (pair (now (t .exit)) (now (q .exit))) ≡ turnMore wanted n eps s (pair (now (t .entry)) (now (q .entry))) ⌝ }
-    ensures { λ r. ⌜ (r .window .end < n) × (r .window .start ≤ r .window .end) × (r .passes ≤ s .passes + 1) ⌝ }
-{
-    let start = s.window.start;
-    let end = s.window.end;
-    pass::double_shift(t, q, n, wanted, Window { start, end });
-    State {
-        window: delimit_subproblem(t, n, eps, end),
-        passes: s.passes + 1,
-    }
-}
-
-// One turn over an open window.
-fn turn(s: State, t: &mut [f64], q: &mut [f64], n: usize, wanted: bool, eps: f64) -> State
-    requires { ⌜ (n ≤ 64) × (length (now t) ≡ n * n) × (s .window .start < s .window .end) × (s .window .end < n) × (s .passes < 18446744073709551615) ⌝ }
-    ensures { λ r. ⌜ running r (pair (now (t .exit)) (now (q .exit))) ≡ turnOf wanted n eps (running s (pair (now (t .entry)) (now (q .entry)))) ⌝ }
-    ensures { λ r. ⌜ (r .window .end < n) × (r .window .start ≤ r .window .end) × (r .passes ≤ s .passes + 1) ⌝ }
-{
-    if s.window.end <= s.window.start + 1 {
-        return turn_two(s, t, q, n, wanted, eps);
-    }
-    turn_more(s, t, q, n, wanted, eps)
-}
-
-// Turn after turn, at most `budget` of them.
-fn run_from(
-    opened: State,
-    t: &mut [f64],
-    q: &mut [f64],
-    n: usize,
-    wanted: bool,
-    eps: f64,
-    budget: u64,
-) -> State
-    requires { ⌜ (n ≤ 64) × (length (now t) ≡ n * n) × (opened .window .start ≤ opened .window .end) × (opened .window .end < n) × (opened .passes ≡ 0) ⌝ }
-    ensures { λ r. ⌜ running r (pair (now (t .exit)) (now (q .exit))) ≡ runFrom wanted n eps budget (running opened (pair (now (t .entry)) (now (q .entry)))) ⌝ }
-{
-    let mut s = opened;
-    let mut left = budget;
-    while left > 0 {
-        if s.window.start == s.window.end {
-            return s;
+impl State {
+    // A pass has been made: T is delimited from `end`, and the pass counts.
+    fn after(self, t: &mut [f64], asked: Setting, end: usize) -> State
+        requires { ⌜ self .passes < 18446744073709551615 ⌝ }
+        ensures { λ r. ⌜ ((q : List Float) → running r (pair (now (t .exit)) q) ≡ after asked end self (pair (now (t .entry)) q)) ⌝ }
+        ensures { λ r. ⌜ (r .window .end ≤ end) × (r .window .start ≤ r .window .end) × (r .passes ≡ self .passes + 1) ⌝ }
+    {
+        let window = delimit_subproblem(t, asked.order, asked.tolerance, end);
+        State {
+            window,
+            passes: self.passes + 1,
         }
-        s = turn(s, t, q, n, wanted, eps);
-        left = left - 1;
     }
-    s
+
+    // A window of two. After the one at the beginning of the matrix the run ends, and that is not counted.
+    fn turn_two(self, t: &mut [f64], q: &mut [f64], asked: Setting) -> State
+        requires { ⌜ (asked .order ≤ 64) × (length (now t) ≡ asked .order * asked .order) × (self .window .start + 1 ≡ self .window .end)
+            × (self .window .end < asked .order) × (self .passes < 18446744073709551615) ⌝ }
+        ensures { λ r. ⌜ running r (pair (now (t .exit)) (now (q .exit))) ≡ turnTwo asked self (pair (now (t .entry)) (now (q .entry))) ⌝ }
+        ensures { λ r. ⌜ (r .window .end < asked .order) × (r .window .start ≤ r .window .end) × (r .passes ≤ self .passes + 1) ⌝ }
+    {
+        let start = self.window.start;
+        let end = self.window.end;
+        pass::split(t, q, asked, start);
+        if end <= 2 {
+            return State {
+                window: Window { start: 0, end: 0 },
+                passes: self.passes,
+            };
+        }
+        self.after(t, asked, end - 2)
+    }
+
+    // A window of three or more.
+    fn turn_more(self, t: &mut [f64], q: &mut [f64], asked: Setting) -> State
+        requires { ⌜ (asked .order ≤ 64) × (length (now t) ≡ asked .order * asked .order) × (self .window .start + 2 ≤ self .window .end)
+            × (self .window .end < asked .order) × (self .passes < 18446744073709551615) ⌝ }
+        ensures { λ r. ⌜ running r (pair (now (t .exit)) (now (q .exit))) ≡ turnMore asked self (pair (now (t .entry)) (now (q .entry))) ⌝ }
+        ensures { λ r. ⌜ (r .window .end < asked .order) × (r .window .start ≤ r .window .end) × (r .passes ≤ self .passes + 1) ⌝ }
+    {
+        let window = self.window;
+        pass::double_shift(t, q, asked, window);
+        self.after(t, asked, window.end)
+    }
+
+    // One turn over an open window.
+    fn turn(self, t: &mut [f64], q: &mut [f64], asked: Setting) -> State
+        requires { ⌜ (asked .order ≤ 64) × (length (now t) ≡ asked .order * asked .order) × (self .window .start < self .window .end)
+            × (self .window .end < asked .order) × (self .passes < 18446744073709551615) ⌝ }
+        ensures { λ r. ⌜ running r (pair (now (t .exit)) (now (q .exit))) ≡ turnOf asked (running self (pair (now (t .entry)) (now (q .entry)))) ⌝ }
+        ensures { λ r. ⌜ (r .window .end < asked .order) × (r .window .start ≤ r .window .end) × (r .passes ≤ self .passes + 1) ⌝ }
+    {
+        if self.window.end <= self.window.start + 1 {
+            return self.turn_two(t, q, asked);
+        }
+        self.turn_more(t, q, asked)
+    }
+
+    // Turn after turn, at most `budget` of them.
+    fn run_from(self, t: &mut [f64], q: &mut [f64], asked: Setting, budget: u64) -> State
+        requires { ⌜ (asked .order ≤ 64) × (length (now t) ≡ asked .order * asked .order) × (self .window .start ≤ self .window .end)
+            × (self .window .end < asked .order) × (self .passes + budget ≤ 18446744073709551615) ⌝ }
+        ensures { λ r. ⌜ running r (pair (now (t .exit)) (now (q .exit))) ≡ runFrom asked budget (running self (pair (now (t .entry)) (now (q .entry)))) ⌝ }
+    {
+        let mut s = self;
+        let mut left = budget;
+        while left > 0 {
+            if s.window.start == s.window.end {
+                return s;
+            }
+            s = s.turn(t, q, asked);
+            left = left - 1;
+        }
+        s
+    }
 }
 
 // Divided by the largest magnitude, unless that is 0. It is handed back, for the way back.
@@ -113,21 +118,21 @@ fn scale_down(t: &mut [f64]) -> f64
 }
 
 // Q from the reduced matrix, where it is wanted.
-fn unpack_q(hess: &[f64], n: usize, work: &[f64], q: &mut [f64], wanted: bool)
-    ensures { λ _. ⌜ now (q .exit) ≡ onQ wanted (unpackedQ n (now (hess .entry)) (now (work .entry))) (now (q .entry)) ⌝ }
+fn unpack_q(hess: &[f64], work: &[f64], q: &mut [f64], asked: Setting)
+    ensures { λ _. ⌜ now (q .exit) ≡ onQ (asked .wanted) (unpackedQ (asked .order) (now (hess .entry)) (now (work .entry))) (now (q .entry)) ⌝ }
 {
-    if wanted {
-        hessenberg::q(hess, n, work, q);
+    if asked.wanted {
+        hessenberg::q(hess, asked.order, work, q);
     }
 }
 
 // Reduced: H in t, and Q where it is wanted.
-fn unpack(t: &mut [f64], q: &mut [f64], n: usize, wanted: bool, work: &mut [f64])
-    ensures { λ _. ⌜ pair (now (t .exit)) (now (q .exit)) ≡ reducedPair wanted n (now (work .entry)) (pair (now (t .entry)) (now (q .entry))) ⌝ }
+fn unpack(t: &mut [f64], q: &mut [f64], asked: Setting, work: &mut [f64])
+    ensures { λ _. ⌜ pair (now (t .exit)) (now (q .exit)) ≡ reducedPair asked (now (work .entry)) (pair (now (t .entry)) (now (q .entry))) ⌝ }
 {
-    hessenberg::new_with_workspace(t, n, work);
-    unpack_q(t, n, work, q, wanted);
-    hessenberg::unpack_h(t, n, work);
+    hessenberg::new_with_workspace(t, asked.order, work);
+    unpack_q(t, work, q, asked);
+    hessenberg::unpack_h(t, asked.order, work);
 }
 
 // Scaled down, reduced, delimited: no pass is counted yet. The largest magnitude is handed back too.
@@ -136,21 +141,15 @@ struct Opening {
     amax: f64,
 }
 
-fn begin(
-    t: &mut [f64],
-    q: &mut [f64],
-    n: usize,
-    wanted: bool,
-    eps: f64,
-    work: &mut [f64],
-) -> Opening
-    requires { ⌜ (n ≤ 64) × (3 ≤ n) × (length (now t) ≡ n * n) ⌝ }
-    ensures { λ r. ⌜ (running (r .state) (pair (now (t .exit)) (now (q .exit))) ≡ opened wanted n eps (now (work .entry)) (pair (now (t .entry)) (now (q .entry)))) × (r .amax ≡ largest (now (t .entry))) ⌝ }
-    ensures { λ r. ⌜ (r .state .window .end < n) × (r .state .window .start ≤ r .state .window .end) × (r .state .passes ≡ 0) ⌝ }
+fn begin(t: &mut [f64], q: &mut [f64], asked: Setting, work: &mut [f64]) -> Opening
+    requires { ⌜ (asked .order ≤ 64) × (3 ≤ asked .order) × (length (now t) ≡ asked .order * asked .order) ⌝ }
+    ensures { λ r. ⌜ (running (r .state) (pair (now (t .exit)) (now (q .exit))) ≡ opened asked (now (work .entry)) (pair (now (t .entry)) (now (q .entry))))
+        × (r .amax ≡ largest (now (t .entry))) ⌝ }
+    ensures { λ r. ⌜ (r .state .window .end < asked .order) × (r .state .window .start ≤ r .state .window .end) × (r .state .passes ≡ 0) ⌝ }
 {
     let amax = scale_down(t);
-    unpack(t, q, n, wanted, work);
-    let window = delimit_subproblem(t, n, eps, n - 1);
+    unpack(t, q, asked, work);
+    let window = delimit_subproblem(t, asked.order, asked.tolerance, asked.order - 1);
     Opening {
         state: State { window, passes: 0 },
         amax,
@@ -158,21 +157,14 @@ fn begin(
 }
 
 // Order 3 and up.
-fn run_large(
-    t: &mut [f64],
-    q: &mut [f64],
-    n: usize,
-    wanted: bool,
-    eps: f64,
-    budget: u64,
-    work: &mut [f64],
-) -> Ran
-    requires { ⌜ (n ≤ 64) × (3 ≤ n) × (length (now t) ≡ n * n) ⌝ }
-    ensures { λ r. ⌜ left r (pair (now (t .exit)) (now (q .exit))) ≡ answered budget (largest (now (t .entry))) (runFrom wanted n eps budget (opened wanted n eps (now (work .entry)) (pair (now (t .entry)) (now (q .entry))))) ⌝ }
+fn run_large(t: &mut [f64], q: &mut [f64], asked: Setting, budget: u64, work: &mut [f64]) -> Ran
+    requires { ⌜ (asked .order ≤ 64) × (3 ≤ asked .order) × (length (now t) ≡ asked .order * asked .order) ⌝ }
+    ensures { λ r. ⌜ left r (pair (now (t .exit)) (now (q .exit)))
+        ≡ answered budget (largest (now (t .entry))) (runFrom asked budget (opened asked (now (work .entry)) (pair (now (t .entry)) (now (q .entry))))) ⌝ }
 {
-    let begun = begin(t, q, n, wanted, eps, work);
+    let begun = begin(t, q, asked, work);
     let state = begun.state;
-    let s = run_from(state, t, q, n, wanted, eps, budget);
+    let s = state.run_from(t, q, asked, budget);
     if s.passes == budget {
         let window = s.window;
         return Ran::BudgetReached(window);
@@ -191,51 +183,29 @@ fn one_in_q(q: &mut [f64], wanted: bool)
 }
 
 // Every order.
-fn run_fitting(
-    t: &mut [f64],
-    q: &mut [f64],
-    n: usize,
-    wanted: bool,
-    eps: f64,
-    budget: u64,
-    work: &mut [f64],
-) -> Ran
-    requires { ⌜ (n ≤ 64) × (1 ≤ n) × (length (now t) ≡ n * n) ⌝ }
-    ensures { λ r. ⌜ left r (pair (now (t .exit)) (now (q .exit))) ≡ ranOf wanted n eps budget (pair (now (t .entry)) (now (q .entry))) (now (work .entry)) ⌝ }
+fn run_fitting(t: &mut [f64], q: &mut [f64], asked: Setting, budget: u64, work: &mut [f64]) -> Ran
+    requires { ⌜ (asked .order ≤ 64) × (1 ≤ asked .order) × (length (now t) ≡ asked .order * asked .order) ⌝ }
+    ensures { λ r. ⌜ left r (pair (now (t .exit)) (now (q .exit))) ≡ ranOf asked budget (pair (now (t .entry)) (now (q .entry))) (now (work .entry)) ⌝ }
 {
-    if n == 1 {
-        one_in_q(q, wanted);
+    if asked.order == 1 {
+        one_in_q(q, asked.wanted);
         return Ran::Ended(0);
     }
-    if n == 2 {
-        pass::decompose_2x2(t, q, wanted);
+    if asked.order == 2 {
+        pass::decompose_2x2(t, q, asked);
         return Ran::Ended(0);
     }
-    run_large(t, q, n, wanted, eps, budget, work)
+    run_large(t, q, asked, budget, work)
 }
 
-// Whether Q has order n, if it is wanted.
-fn q_fits(wanted: bool, n: usize, qn: usize) -> bool
-    requires { ⌜ n ≤ 64 ⌝ }
-    ensures { λ r. ⌜ r ≡ (not wanted || eqb qn (n * n)) ⌝ }
-{
-    if !wanted {
-        return true;
-    }
-    qn == n * n
-}
-
-// Whether T has order n, from 1 to 64, Q too if it is wanted, and the workspace 2n numbers.
-fn run_fits(wanted: bool, n: usize, tn: usize, qn: usize, wn: usize) -> bool
-    ensures { λ r. ⌜ r ≡ runFits wanted n tn qn wn ⌝ }
+// Whether T has order n, from 1 to 64, and the workspace 2n numbers.
+fn run_fits(n: usize, tn: usize, wn: usize) -> bool
+    ensures { λ r. ⌜ r ≡ runFits n tn wn ⌝ }
 {
     if n == 0 {
         return false;
     }
     if !matrix::block_fits(n, tn, 0, n, 0, n) {
-        return false;
-    }
-    if !q_fits(wanted, n, qn) {
         return false;
     }
     wn == 2 * n
@@ -246,19 +216,17 @@ fn run_fits(wanted: bool, n: usize, tn: usize, qn: usize, wn: usize) -> bool
 pub fn do_decompose(
     t: &mut [f64],
     q: &mut [f64],
-    n: usize,
-    wanted: bool,
-    eps: f64,
+    asked: Setting,
     budget: u64,
     work: &mut [f64],
 ) -> Ran
-    ensures { λ r. ⌜ left r (pair (now (t .exit)) (now (q .exit))) ≡ runOf wanted n eps budget (pair (now (t .entry)) (now (q .entry))) (now (work .entry)) ⌝ }
-    ensures { λ _. ⌜ now (work .exit) ≡ workAfter wanted n (pair (now (t .entry)) (now (q .entry))) (now (work .entry)) ⌝ }
+    ensures { λ r. ⌜ left r (pair (now (t .exit)) (now (q .exit))) ≡ runOf asked budget (pair (now (t .entry)) (now (q .entry))) (now (work .entry)) ⌝ }
+    ensures { λ _. ⌜ now (work .exit) ≡ workAfter (asked .order) (now (t .entry)) (now (work .entry)) ⌝ }
 {
-    if !run_fits(wanted, n, t.len(), q.len(), work.len()) {
+    if !run_fits(asked.order, t.len(), work.len()) {
         return Ran::Unfit;
     }
-    let ran = run_fitting(t, q, n, wanted, eps, budget, work);
+    let ran = run_fitting(t, q, asked, budget, work);
     matrix::fill(work, 0.0);
     ran
 }

@@ -24,8 +24,14 @@ returns-2 : tie.Need-returns-2
 unfolding orderTwo
 returns-2 c =
     let turned = c .before .before .before .before .before .before .before in
-    rw (eq-eqb _ _ (goes turned .if1 .left), c .before .before .before .before .if2 .taken, c .before .before .basis-columns .ensures, turned .turn-t .ensures,
-    found turned .compute-2x2-basis .ensures, read turned .block-at .ensures)
+    rw (
+      eq-eqb _ _ (goes turned .if1 .left),
+      c .before .before .before .before .if2 .taken,
+      c .before .before .basis-columns .ensures,
+      turned .turn-t .ensures,
+      found turned .compute-2x2-basis .ensures,
+      read turned .block-at .ensures,
+    )
 
 returns-3 : tie.Need-returns-3
 unfolding orderTwo

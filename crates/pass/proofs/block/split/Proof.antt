@@ -33,8 +33,14 @@ unfolding splitAt
 returns-2 c =
     let turned = c .before .before .before .before .before .before .before in
     let asks = goes turned in
-    rw (inside (asks .before .block-fits .ensures) (asks .if1 .left), c .before .before .before .before .if2 .taken, c .before .before .turn-q .ensures, turned .turn-t .ensures,
-    found turned .compute-2x2-basis .ensures, read turned .block-at .ensures)
+    rw (
+      inside (asks .before .block-fits .ensures) (asks .if1 .left),
+      c .before .before .before .before .if2 .taken,
+      c .before .before .turn-q .ensures,
+      turned .turn-t .ensures,
+      found turned .compute-2x2-basis .ensures,
+      read turned .block-at .ensures,
+    )
 
 returns-3 : tie.Need-returns-3
 unfolding splitAt

@@ -10,8 +10,8 @@ use Rattle.schur.proofs.Answering.{RunFits, run-fitting}
 use Rattle.schur.proofs.run.do_decompose.Statement.{statement}
 use Rattle.schur.proofs.run.do_decompose.Tie as tie
 
-fitted : (c : tie.Else1) → let x = c .before .before .before .before .before .args in RunFits (x .n) (length (x .t .now)) (length (x .work .now))
-fitted c = run-fitting _ _ _ _ _ (inside (c .before .run-fits .ensures) (c .if1 .left))
+fitted : (c : tie.Else1) → let x = c .before .before .before .before .before .args in RunFits (x .asked .order) (length (x .t .now)) (length (x .work .now))
+fitted c = run-fitting _ _ _ (inside (c .before .run-fits .ensures) (c .if1 .left))
 
 returns : tie.Need-returns
 unfolding runOf workAfter
@@ -22,10 +22,12 @@ run-fitting-requires c κs = let f = fitted (c .before .before .before) in (f .o
 
 returns-2 : tie.Need-returns-2
 unfolding runOf workAfter
-returns-2 c = (
-  rw (inside (c .before .before .before .before .before .before .before .before .before .before .before .before .before .before .before .run-fits .ensures) (c .before .before .before .before .before .before .before .before .before .before .before .before .before .before .if1 .left)) (c .before .before .before .before .before .before .before .before .before .before .run-fitting .ensures),
-  rw (inside (c .before .before .before .before .before .before .before .before .before .before .before .before .before .before .before .run-fits .ensures) (c .before .before .before .before .before .before .before .before .before .before .before .before .before .before .if1 .left)) (c .before .before .fill .ensures ∙ filled-same zero _ _ (omega arith)),
-)
+returns-2 c =
+    let cleared = c .before .before in
+    let ran = cleared .before .before .before .before .before .before .before .before in
+    let goes = ran .before .before .before .before in
+    let fits = inside (goes .before .run-fits .ensures) (goes .if1 .left) in
+    (rw fits (ran .run-fitting .ensures), rw fits (cleared .fill .ensures ∙ filled-same zero _ _ (omega arith)))
 
 pub do-decompose-spec : {M : Type 1} → statement M
 do-decompose-spec = tie.close (tie.spec (λ c κs. omega arith) returns run-fitting-requires (λ c κs. omega arith)

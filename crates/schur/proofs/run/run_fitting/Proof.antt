@@ -7,15 +7,21 @@ use Rattle.schur.proofs.run.run_fitting.Tie as tie
 
 returns : tie.Need-returns
 unfolding ranOf
-returns c = rw (eq-eqb _ _ (c .before .before .before .before .if1 .taken), c .before .before .one-in-q .ensures)
+returns c = let put = c .before .before in rw (eq-eqb _ _ (put .before .before .if1 .taken), put .one-in-q .ensures)
 
 returns-2 : tie.Need-returns-2
 unfolding ranOf
-returns-2 c = rw (ne-eqb _ _ (c .before .before .before .before .before .before .before .before .if1 .left), eq-eqb _ _ (c .before .before .before .before .before .before .before .if2 .taken), c .before .before .before .before .decompose-2x2 .ensures)
+returns-2 c =
+    let made = c .before .before .before .before in
+    let two = made .before .before .before in
+    rw (ne-eqb _ _ (two .before .before .if1 .left), eq-eqb _ _ (two .if2 .taken), made .decompose-2x2 .ensures)
 
 returns-3 : tie.Need-returns-3
 unfolding ranOf
-returns-3 c = rw (ne-eqb _ _ (c .before .before .before .before .before .before .before .before .before .before .before .if1 .left), ne-eqb _ _ (c .before .before .before .before .before .before .before .before .before .before .if2 .left)) (c .before .before .before .before .before .before .run-large .ensures)
+returns-3 c =
+    let ran = c .before .before .before .before .before .before in
+    let more = ran .before .before .before .before in
+    rw (ne-eqb _ _ (more .before .before .if1 .left), ne-eqb _ _ (more .if2 .left)) (ran .run-large .ensures)
 
 pub run-fitting-spec : {M : Type 1} → statement M
 run-fitting-spec = tie.close (tie.spec (λ c κs. omega arith) (λ c. omega arith) returns (λ c κs. omega arith) (λ c. omega arith) (λ c. omega arith) returns-2

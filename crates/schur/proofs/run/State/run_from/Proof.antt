@@ -1,4 +1,4 @@
--- `schur::run::run_from` meets its contract. Assumes nothing.
+-- `schur::run::State::run_from` meets its contract. Assumes nothing.
 use native.Mathlib.Omega.{arith}
 use Prim.Native.Nat.{_+_, _*_, _-_, _<_, _≤_}
 use mathlib.Core.Bool.{true, false}
@@ -8,17 +8,17 @@ use lib.ListN.{length}
 use Rattle.loops.specs.Until.{until-out, until-stop, until-turn}
 use Rattle.pass.specs.Pair.{pair}
 use Rattle.schur.specs.Run.{running, closed, runFrom}
-use Rattle.schur.proofs.run.run_from.Statement.{statement}
-use Rattle.schur.proofs.run.run_from.Tie as tie
+use Rattle.schur.proofs.run.State.run_from.Statement.{statement}
+use Rattle.schur.proofs.run.State.run_from.Tie as tie
 
 -- what is left to do is the whole
 abbrev Inv-loop : tie.InvT-loop
-Inv-loop t₀ q₀ n wanted eps budget s₀ left₀ t q s left = (length t ≡ n * n) × (length q ≡ length q₀)
-    × (s .window .end < n) × (s .window .start ≤ s .window .end) × (s .passes + left ≤ budget)
-    × (runFrom wanted n eps left (running s (pair t q)) ≡ runFrom wanted n eps budget (running s₀ (pair t₀ q₀)))
+Inv-loop t₀ q₀ asked budget s₀ left₀ t q s left = (length t ≡ asked .order * asked .order) × (length q ≡ length q₀)
+    × (s .window .end < asked .order) × (s .window .start ≤ s .window .end) × (s .passes + left ≤ s₀ .passes + budget)
+    × (runFrom asked left (running s (pair t q)) ≡ runFrom asked budget (running s₀ (pair t₀ q₀)))
 
 abbrev μ-loop : tie.MeasureT-loop
-μ-loop t₀ q₀ n wanted eps budget s₀ left₀ t q s left = left
+μ-loop t₀ q₀ asked budget s₀ left₀ t q s left = left
 
 -- the window has closed
 returns : tie.Need-returns Inv-loop μ-loop
@@ -31,11 +31,13 @@ returns c =
 loop-again : tie.Need-loop-again Inv-loop μ-loop
 unfolding runFrom closed
 loop-again c =
-    let l = c .before .before .before .before .before .before .before .before .before .before .loop in
-    let x = c .before .before .before .before .before .before .before .before .before .before .before .before .before .args in
-    let goes : closed (running (l .s) (pair (l .t) (l .q))) ≡ false = ne-eqb _ _ (c .before .before .before .before .before .before .before .if1 .left) in
-    let again = ap (runFrom (x .wanted) (x .n) (x .eps) (l .left - 1)) (c .before .before .before .before .turn .ensures .0) in
-    (omega arith, omega arith, omega arith, omega arith, omega arith, again ∙ sym (until-turn _ _ _ _ (omega arith) goes) ∙ l .inv .5)
+    let turned = c .before .before .before .before in
+    let goes = turned .before .before .before in
+    let l = goes .before .before .before .loop in
+    let x = goes .before .before .before .before .before .before .args in
+    let still : closed (running (l .s) (pair (l .t) (l .q))) ≡ false = ne-eqb _ _ (goes .if1 .left) in
+    let again = ap (runFrom (x .asked) (l .left - 1)) (turned .turn .ensures .0) in
+    (omega arith, omega arith, omega arith, omega arith, omega arith, again ∙ sym (until-turn _ _ _ _ (omega arith) still) ∙ l .inv .5)
 
 -- the budget is used up
 returns-2 : tie.Need-returns-2 Inv-loop μ-loop
@@ -44,7 +46,7 @@ returns-2 c =
     let l = c .before .loop in
     let x = c .before .before .before .before .args in
     let e : l .left ≡ 0 = omega arith in
-    sym (ap (λ k. runFrom (x .wanted) (x .n) (x .eps) k (running (l .s) (pair (l .t) (l .q)))) e ∙ until-out _ _ _) ∙ l .inv .5
+    sym (ap (λ k. runFrom (x .asked) k (running (l .s) (pair (l .t) (l .q)))) e ∙ until-out _ _ _) ∙ l .inv .5
 
 pub run-from-spec : {M : Type 1} → statement M
 run-from-spec = tie.close (tie.spec Inv-loop μ-loop (λ c. (omega arith, omega arith, omega arith, omega arith, omega arith, refl))

@@ -1,0 +1,15 @@
+-- `schur::run::State::turn_more` meets its contract. Assumes nothing.
+use native.Mathlib.Omega.{arith}
+use Rattle.schur.specs.Run.{turnMore}
+use Rattle.schur.proofs.run.State.turn_more.Statement.{statement}
+use Rattle.schur.proofs.run.State.turn_more.Tie as tie
+
+returns : tie.Need-returns
+unfolding turnMore
+returns c =
+    let counted = c .before .before in
+    let shifted = counted .before .before .before .before .before .before in
+    (rw (← shifted .double-shift .ensures) (counted .after .ensures .0 _), (omega arith, omega arith, omega arith))
+
+pub turn-more-spec : {M : Type 1} → statement M
+turn-more-spec = tie.close (tie.spec (λ c κs. omega arith) (λ c κs. omega arith) (λ c. omega arith) (λ c. omega arith) returns)

@@ -1,0 +1,22 @@
+-- `schur::run::State::turn_two` meets its contract. Assumes nothing.
+use native.Mathlib.Omega.{arith}
+use borrow.Author.Tests.{le-leb, lt-leb}
+use Rattle.schur.specs.Run.{turnTwo}
+use Rattle.schur.proofs.run.State.turn_two.Statement.{statement}
+use Rattle.schur.proofs.run.State.turn_two.Tie as tie
+
+returns : tie.Need-returns
+unfolding turnTwo
+returns c = (rw (le-leb _ _ (c .if1 .taken), ← c .before .before .before .before .before .split .ensures), (omega arith, omega arith, omega arith))
+
+returns-2 : tie.Need-returns-2
+unfolding turnTwo
+returns-2 c =
+    let counted = c .before .before in
+    let goes = counted .before .before in
+    let parted = goes .before .before .before .before .before in
+    (rw (lt-leb _ _ (goes .if1 .left), ← parted .split .ensures) (counted .after .ensures .0 _), (omega arith, omega arith, omega arith))
+
+pub turn-two-spec : {M : Type 1} → statement M
+turn-two-spec = tie.close (tie.spec (λ c κs. omega arith) (λ c. omega arith) (λ c. omega arith) returns (λ c. omega arith) (λ c κs. omega arith) (λ c. omega arith)
+    (λ c. omega arith) returns-2)
