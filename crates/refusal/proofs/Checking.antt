@@ -1,6 +1,6 @@
 -- Checks in turn: what follows where all have passed, and which refusals they may come to. Assumes nothing.
 use mathlib.Core.Bool.{Bool, true, false}
-use mathlib.Core.Path.{_≡_, refl, subst}
+use mathlib.Core.Path.{_≡_, refl, sym, subst, _∙_}
 use Rattle.refusal.specs.declared.refusal.Place.{Place}
 use Rattle.refusal.specs.declared.refusal.Refusal.{Refusal}
 use Rattle.refusal.specs.declared.refusal.Checked.{Checked}
@@ -21,10 +21,22 @@ unfolding _next_
 next-passed Passed d h = (refl, h)
 next-passed (Refused r) d h = absurd (refused-not-passed r h)
 
+pub next-passes : {c d : Checked} → c ≡ Passed → d ≡ Passed → (c next d) ≡ Passed
+unfolding _next_
+next-passes h k = rw h k
+
 -- the first that refuses decides
 pub next-refused : {r : Refusal} (c d : Checked) → c ≡ Refused r → (c next d) ≡ Refused r
 unfolding _next_
 next-refused c d h = rw h
+
+-- In code: a check has come to x, which is what c says. If it refuses, that is what c and all behind it come to; if it passes, they come to what is left.
+pub next-first : {r : Refusal} {x c : Checked} (d : Checked) → x ≡ c → x ≡ Refused r → x ≡ (c next d)
+next-first {x = x} {c = c} d e h = h ∙ sym (next-refused c d (sym e ∙ h))
+
+pub next-then : {x y c d : Checked} → x ≡ c → x ≡ Passed → y ≡ d → y ≡ (c next d)
+unfolding _next_
+next-then e h k = rw (← e, h) k
 
 -- grouped in another way
 pub next-assoc : (a b c : Checked) → ((a next b) next c) ≡ (a next (b next c))
