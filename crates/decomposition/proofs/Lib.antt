@@ -8,3 +8,4 @@ pub mod Shape
 pub mod Independent
 pub mod One
 mod Judging
+mod Promised

@@ -12,18 +12,21 @@ use Rattle.scalar.specs.Class.{isFinite}
 use Rattle.matrix.specs.Known.{shown}
 use Rattle.matrix.specs.Known.{read as numbers}
 use Rattle.schur.specs.Known.{openedSchur}
+use Rattle.pass.specs.Setting.{setting}
 use Rattle.pass.specs.Pair.{pair}
 use Rattle.refusal.specs.Refusal.{toldOf, refuse, refuseAt, _next_}
+use Rattle.refusal.specs.Checks.{orderChecks, lengthCheck, onlyIf, lentLengths, matrixLengths, entryChecks}
 use Rattle.refusal.specs.Search.{firstRow, firstCol, firstPlace, notFinite, spoils, firstNotFinite, firstSpoiling}
 use Rattle.decomposition.specs.declared.Decomposed.{Decomposed}
 use Rattle.decomposition.specs.declared.Decomposed.the-variants.{Accepted, Declined}
-use Rattle.decomposition.specs.Checks.{toleranceFits, budgetFits, lengthsFit, argumentChecks, resultChecks}
-use Rattle.decomposition.specs.Decomposition.{Outcome, verdict, passesOf, spoiled, settled, judged, begun, decompositionOf}
+use Rattle.decomposition.specs.Checks.{toleranceFits, budgetFits, placedLengths, allLengths, argumentChecks, resultChecks}
+use Rattle.decomposition.specs.Decomposition.{Outcome, verdict, passesOf, spoiled, settled, decided, judged, begun, entryOf, decompositionOf, placedOf}
 
 -- every definition that a case computes with
 unfoldable pub openedDecomposition : Unit {0}
 unfolding openedSchur firstFrom isFinite toldOf refuse refuseAt _next_ firstRow firstCol firstPlace notFinite spoils firstNotFinite firstSpoiling
-    toleranceFits budgetFits lengthsFit argumentChecks resultChecks verdict passesOf spoiled settled judged begun decompositionOf
+    orderChecks lengthCheck onlyIf lentLengths matrixLengths entryChecks
+    toleranceFits budgetFits placedLengths allLengths argumentChecks resultChecks verdict passesOf spoiled settled decided judged begun entryOf
 openedDecomposition = tt
 
 -- 0 and the count; or the number of the refusal and its place
@@ -52,7 +55,7 @@ ones n = times (λ _ w. one ∷ w) n []
 done : Bool → Case → List (List ℕ)
 done wanted c =
     let n = c .order in
-    told (decompositionOf wanted n (ofBits binary64 (c .eps)) (c .budget) (numbers (c .matrix)) (pair (ones (n * n)) (ones (n * n))) (ones (2 * n)))
+    told (decompositionOf (setting n wanted (ofBits binary64 (c .eps))) (c .budget) (numbers (c .matrix)) (pair (ones (n * n)) (ones (n * n))) (ones (2 * n)))
 
 -- 2 ^ -52
 usual : ℕ
@@ -107,7 +110,7 @@ unfolding openedDecomposition before fault case ones done usual J told answerOf 
 untouched = refl
 
 -- i: order 65, of which nothing is lent
-large : told (decompositionOf true 65 one 0 [] (pair [] []) []) ≡ (2 ∷ 0 ∷ 0 ∷ []) ∷ [] ∷ [] ∷ [] ∷ []
+large : told (decompositionOf (setting 65 true one) 0 [] (pair [] []) []) ≡ (2 ∷ 0 ∷ 0 ∷ []) ∷ [] ∷ [] ∷ [] ∷ []
 unfolding openedDecomposition told answerOf
 large = refl
 
@@ -138,3 +141,14 @@ filledAlone f = let n = f .of .order in f .answer ∷ nans (n * n) ∷ shown (on
 alone : map (λ f. done false (f .of)) after ≡ map filledAlone after
 unfolding openedDecomposition after fault case ones done usual twice told answerOf nans filledAlone
 alone = refl
+
+-- ---- in place, where T holds the matrix: a workspace of another length, then the tolerance 1; and J, which is accepted
+
+placed : ℕ → ℕ → List ℕ → List (List ℕ)
+placed budget room m = told (placedOf (setting 2 true one) budget (pair (numbers m) (ones 4)) (ones room))
+
+at : map (λ room. placed 0 room J) (3 ∷ 4 ∷ []) ∷ (told (placedOf (setting 2 true (ofBits binary64 usual)) 1 (pair (numbers J) (ones 4)) (ones 4)) ∷ []) ∷ []
+    ≡ (((3 ∷ 0 ∷ 0 ∷ []) ∷ J ∷ shown (ones 4) ∷ shown (ones 3) ∷ []) ∷ ((4 ∷ 0 ∷ 0 ∷ []) ∷ J ∷ shown (ones 4) ∷ shown (ones 4) ∷ []) ∷ [])
+    ∷ (((0 ∷ 0 ∷ []) ∷ J ∷ (0x3ff0_0000_0000_0000 ∷ 0 ∷ 0 ∷ 0x3ff0_0000_0000_0000 ∷ []) ∷ (0 ∷ 0 ∷ 0 ∷ 0 ∷ []) ∷ []) ∷ []) ∷ []
+unfolding openedDecomposition ones usual J told answerOf placed
+at = refl

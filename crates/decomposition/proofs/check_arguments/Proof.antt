@@ -1,43 +1,29 @@
 -- `decomposition::check_arguments` meets its contract. Assumes nothing.
 use native.Mathlib.Omega.{arith}
-use mathlib.Core.Bool.{true, false}
-use mathlib.Core.Path.{_≡_}
-use borrow.Author.Tests.{eq-eqb, ne-eqb, lt-ltb, le-ltb}
-use lib.Dec.{eqb, ltb}
-use lib.ListN.{length}
-use Rattle.matrix.proofs.Fitting.{inside, outside}
-use Rattle.refusal.specs.Refusal.{refuse, _next_}
-use Rattle.decomposition.specs.Checks.{toleranceFits, budgetFits, lengthsFit, argumentChecks}
+use mathlib.Core.Path.{sym, _∙_}
+use Rattle.refusal.proofs.Checking.{next-first, next-then}
+use Rattle.refusal.proofs.Passing.{order-passed}
+use Rattle.decomposition.specs.Checks.{argumentChecks}
 use Rattle.decomposition.proofs.check_arguments.Statement.{statement}
 use Rattle.decomposition.proofs.check_arguments.Tie as tie
 
--- each check that has passed
+lengths-requires : tie.Need-check-all-lengths-requires
+lengths-requires c κs = order-passed _ (sym (c .before .before .check-order .ensures) ∙ c .enum-told .given .1) .order
 
-order-some : (c : tie.Else1) → eqb (c .before .before .args .n) 0 ≡ false
-order-some c = ne-eqb _ _ (c .if1 .left)
+returns-2 : tie.Need-returns-2
+unfolding argumentChecks
+returns-2 c =
+    let ordered = c .before .before .before in
+    next-then (ordered .before .before .check-order .ensures) (ordered .enum-told .given .1) (next-first _ (c .before .before .check-all-lengths .ensures) (c .enum-told4 .given .1))
 
-order-small : (c : tie.Else2) → ltb 64 (c .before .before .before .args .n) ≡ false
-order-small c = le-ltb _ _ (c .if2 .left)
-
-lengths-right : (c : tie.Else3) → let x = c .before .before .before .before .before .args in lengthsFit (x .wanted) (x .n) (length (x .m .now)) (x .tn) (x .qn) (x .wn) ≡ true
-lengths-right c = inside (c .before .lengths-fit .ensures) (c .if3 .left)
-
-tolerance-right : (c : tie.Else4) → toleranceFits (c .before .before .before .before .before .before .before .args .tolerance) ≡ true
-tolerance-right c = inside (c .before .tolerance-fits .ensures) (c .if4 .left)
-
-budget-right : (c : tie.Else5) → budgetFits (c .before .before .before .before .before .before .before .before .before .args .budget) ≡ true
-budget-right c = inside (c .before .budget-fits .ensures) (c .if5 .left)
+returns-3 : tie.Need-returns-3
+unfolding argumentChecks
+returns-3 c =
+    let ordered = c .before .before .before .before in
+    next-then (ordered .before .before .check-order .ensures) (ordered .enum-told .given .1)
+    (next-then (c .before .before .before .check-all-lengths .ensures) (c .before .enum-told3 .given .1) (c .check-values .ensures))
 
 pub check-arguments-spec : {M : Type 1} → statement M
-unfolding argumentChecks refuse _next_
-check-arguments-spec = tie.close (tie.spec
-    (λ c. rw (eq-eqb _ _ (c .if1 .taken)))
-    (λ c. rw (order-some (c .before), lt-ltb _ _ (c .if2 .taken)))
-    (λ c κs. omega arith)
-    (λ c. rw (order-some (c .before .before .before), order-small (c .before .before), outside (c .before .lengths-fit .ensures) (c .if3 .taken)))
-    (λ c κs. omega arith)
-    (λ c. rw (order-some (c .before .before .before .before .before), order-small (c .before .before .before .before), lengths-right (c .before .before), outside (c .before .tolerance-fits .ensures) (c .if4 .taken)))
-    (λ c κs. omega arith)
-    (λ c. rw (order-some (c .before .before .before .before .before .before .before), order-small (c .before .before .before .before .before .before), lengths-right (c .before .before .before .before), tolerance-right (c .before .before), outside (c .before .budget-fits .ensures) (c .if5 .taken)))
-    (λ c κs. omega arith)
-    (λ c. rw (order-some (c .before .before .before .before .before .before .before .before), order-small (c .before .before .before .before .before .before .before), lengths-right (c .before .before .before .before .before), tolerance-right (c .before .before .before), budget-right (c .before)) (c .check-entries .ensures)))
+unfolding argumentChecks
+check-arguments-spec = tie.close (tie.spec (λ c κs. omega arith) (λ c. omega arith) (λ c. omega arith) (λ c. next-first _ (c .before .before .check-order .ensures) (c .enum-told2 .given .1))
+    lengths-requires (λ c. omega arith) (λ c. omega arith) returns-2 (λ c κs. omega arith) returns-3)
