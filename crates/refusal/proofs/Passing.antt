@@ -98,13 +98,13 @@ entries-passes n m h = rw h
 
 -- ---- all that is checked first
 
-pub record Given (lengths : Checked) (n : ℕ) (m : List Float) : Type 0 where
+pub record Allowed (lengths : Checked) (n : ℕ) (m : List Float) : Type 0 where
   pub some : 1 ≤ n
   pub order : n ≤ 64
   pub lent : lengths ≡ Passed
   pub entries : firstNotFinite n m ≡ Nowhere
 
-pub given-passed : (lengths : Checked) (n : ℕ) (m : List Float) → givenChecks lengths n m ≡ Passed → Given lengths n m
+pub given-passed : (lengths : Checked) (n : ℕ) (m : List Float) → givenChecks lengths n m ≡ Passed → Allowed lengths n m
 unfolding givenChecks
 given-passed lengths n m h =
     let a = next-passed _ _ h in
@@ -112,7 +112,7 @@ given-passed lengths n m h =
     let o = order-passed n (a .0) in
     record { some = o .some; order = o .order; lent = b .0; entries = entries-passed n m (b .1) }
 
-pub given-passes : {lengths : Checked} {n : ℕ} {m : List Float} → Given lengths n m → givenChecks lengths n m ≡ Passed
+pub given-passes : {lengths : Checked} {n : ℕ} {m : List Float} → Allowed lengths n m → givenChecks lengths n m ≡ Passed
 unfolding givenChecks
 given-passes {lengths} {n} {m} g = next-passes (order-passes (g .some) (g .order)) (next-passes (g .lent) (entries-passes n m (g .entries)))
 
