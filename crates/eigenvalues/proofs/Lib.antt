@@ -1,10 +1,8 @@
--- `Real`: the real reader's two answers, and that an accepted T may be read; `PlainRun`: the plain entry by the decomposition; `One`: two answers that a
--- contract allows are one.
+-- `Real`: the real reader's two answers; `Answering`: what a block answers, told of what a routine has in hand; `Diagonal`: a search along the diagonal;
+-- `One`: two answers that a contract allows are one.
 pub mod Real
-pub mod PlainRun
+pub mod Answering
+pub mod Diagonal
 pub mod One
-mod Answering
 mod Checking
-mod Diagonal
 mod Filling
-mod Plainly

@@ -1,4 +1,4 @@
--- One contract, one answer, for the two readers and the plain entry: two answers, each with the lent lists behind it, that a contract allows on the same
+-- One contract, one answer, for the readers: two answers, each with the lent lists behind it, that a contract allows on the same
 -- arguments are the same. The contracts are those that are read from the source, `Post`: what each function has to show. Assumes nothing.
 use mathlib.Core.Path.{_≡_, ap}
 use contract.Lifetimes.{Lfts}
@@ -10,8 +10,6 @@ use Rattle.eigenvalues.proofs.readers.eigenvalues.Kinds as real
 use Rattle.eigenvalues.proofs.readers.eigenvalues.Reads as reads-real
 use Rattle.eigenvalues.proofs.readers.complex_eigenvalues.Kinds as complex
 use Rattle.eigenvalues.proofs.readers.complex_eigenvalues.Reads as reads-complex
-use Rattle.eigenvalues.proofs.plain.plain_eigenvalues.Kinds as plain
-use Rattle.eigenvalues.proofs.plain.plain_eigenvalues.Reads as reads-plain
 
 -- the list of eigenvalues
 pub one-real : (κs : Lfts 2) (a : Dens κs real.ps) (r r' : Checked) (s s' : AtExit (endedOf 2 real.ps real.r) κs) → reads-real.Post κs a r s → reads-real.Post κs a r' s'
@@ -22,8 +20,3 @@ one-real κs a r r' s s' h k = let e = one-answer _ _ _ (h .0) (k .0) in (ap (λ
 pub one-complex : (κs : Lfts 3) (a : Dens κs complex.ps) (r r' : Checked) (s s' : AtExit (endedOf 3 complex.ps complex.r) κs) → reads-complex.Post κs a r s → reads-complex.Post κs a r' s'
     → (r ≡ r') × (s .1 .1 .0 .now ≡ s' .1 .1 .0 .now) × (s .1 .1 .1 .0 .now ≡ s' .1 .1 .1 .0 .now)
 one-complex κs a r r' s s' h k = let e = one-answer _ _ _ h k in (ap (λ x. x .answer) e, ap (λ x. x .re) e, ap (λ x. x .im) e)
-
--- the list of eigenvalues and the workspace
-pub one-plain : (κs : Lfts 3) (a : Dens κs plain.ps) (r r' : Checked) (s s' : AtExit (endedOf 3 plain.ps plain.r) κs) → reads-plain.Post κs a r s → reads-plain.Post κs a r' s'
-    → (r ≡ r') × (s .1 .1 .0 .now ≡ s' .1 .1 .0 .now) × (s .1 .1 .1 .0 .now ≡ s' .1 .1 .1 .0 .now)
-one-plain κs a r r' s s' h k = let e = one-answer _ _ _ h k in (ap (λ x. x .answer) e, ap (λ x. x .values) e, ap (λ x. x .work) e)

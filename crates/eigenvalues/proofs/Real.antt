@@ -1,31 +1,26 @@
 -- The real reader (document 00, demand 3): given a T that may be read, it answers the diagonal if every entry just below the diagonal is zero, and else
--- 'complex'; and each of the two then only. An accepted T may be read. Assumes nothing.
+-- 'complex'; and each of the two then only. Assumes nothing.
 use Prim.Native.Nat.{ℕ, _+_, _*_, _<_, _≤_}
-use mathlib.Core.Bool.{Bool, true, false, not, _&&_}
+use mathlib.Core.Bool.{true, false, not}
 use mathlib.Core.Path.{_≡_, sym, ap, subst, _∙_}
 use mathlib.Core.List.{List}
 use native.Mathlib.Decide.{decLt}
 use native.Mathlib.Omega.{arith}
-use borrow.Author.Tests.{eqb-true, eqb-false, eq-eqb, ne-eqb, ltb-true, le-ltb, not-true, not-false}
-use lib.Dec.{eqb}
+use borrow.Author.Tests.{ltb-true, not-true, not-false}
 use lib.ListN.{length}
 use lib.Ieee.{Float}
 use Rattle.loops.specs.First.{first, first-named, some-none, some-named, none-some}
 use Rattle.refusal.specs.declared.refusal.Refusal.{Refusal}
-use Rattle.refusal.specs.declared.refusal.Refusal.the-variants.{ComplexEigenvalues}
+use Rattle.refusal.specs.declared.refusal.Refusal.the-variants.{WrongLength, ComplexEigenvalues}
 use Rattle.refusal.specs.declared.refusal.Checked.{Checked}
 use Rattle.refusal.specs.declared.refusal.Checked.the-variants.{Passed, Refused}
-use Rattle.refusal.specs.Refusal.{toldOf, refuse, refuseAt, _next_, ifPassed}
-use Rattle.refusal.proofs.Checking.{next-passed, next-on, next-second, refuse-passed, refuse-refused, refuseAt-passed, Only, only-next, only-refuse, only-at}
+use Rattle.refusal.specs.Refusal.{toldOf, refuse, refuseAt, ifPassed}
+use Rattle.refusal.specs.Checks.{lengthCheck}
+use Rattle.refusal.proofs.Checking.{next-passed, next-passes, next-on, next-second, refuse-passed, refuse-refused, refuseAt-passed, Only, only-next, only-at}
+use Rattle.refusal.proofs.Passing.{order-passes, length-passed, length-passes, given-passed, given-passes, only-length, only-given}
 use Rattle.refusal.proofs.Shape.{nowhere-finite, finite-nowhere, nowhere-shape, shape-nowhere}
-use Rattle.pass.specs.Pair.{Pair}
-use Rattle.decomposition.specs.declared.Decomposed.the-variants.{Accepted}
-use Rattle.decomposition.specs.Decomposition.{Outcome, decompositionOf}
-use Rattle.decomposition.proofs.Passing.{all-right}
-use Rattle.decomposition.proofs.Touched.{accepted-passed, t-square}
-use Rattle.decomposition.proofs.Shape.{accepted-finite, accepted-shape}
 use Rattle.eigenvalues.specs.Blocks.{paired}
-use Rattle.eigenvalues.specs.Readers.{readable, anyPaired, realChecks, diagonal, Read, read, realRead}
+use Rattle.eigenvalues.specs.Readers.{readable, anyPaired, pairCheck, realChecks, diagonal, Read, read, listed, realLengths, realRead, diagonalIfReal}
 use Rattle.eigenvalues.specs.Real.{Given, AllZeroBelow, OneNotZero, RealAnswer}
 use Rattle.eigenvalues.proofs.Answering.{paired-last, paired-by, paired-inside}
 use Rattle.eigenvalues.proofs.Checking.{readable-fit}
@@ -61,12 +56,13 @@ module _ (n : ℕ) (t : List Float) where
 
 -- ---- what both readers check comes to 9 at most, so that 'complex', 10, is the real reader's own
 
-readable-numbers : (lengths : Bool) (n : ℕ) (t : List Float) → Only (λ r. toldOf r .number ≤ 9) (readable lengths n t)
+readable-numbers : (lengths : Checked) (n : ℕ) (t : List Float) → Only (λ r. toldOf r .number ≤ 9) lengths → Only (λ r. toldOf r .number ≤ 9) (readable lengths n t)
 unfolding readable toldOf
-readable-numbers lengths n t =
-    only-next _ _ _ (only-refuse _ _ _ (omega arith))
-    (only-next _ _ _ (only-refuse _ _ _ (omega arith))
-    (only-next _ _ _ (only-refuse _ _ _ (omega arith)) (only-next _ _ _ (only-at _ _ _ (λ _. omega arith)) (only-at _ _ _ (λ _. omega arith)))))
+readable-numbers lengths n t h = only-next _ _ _ (only-given _ _ _ _ (omega arith) (omega arith) h (λ _. omega arith)) (only-at _ _ _ (λ _. omega arith))
+
+lengths-numbers : (n tn vn : ℕ) → Only (λ r. toldOf r .number ≤ 9) (realLengths n tn vn)
+unfolding realLengths toldOf
+lengths-numbers n tn vn = only-next _ _ _ (only-length _ _ _ _ (omega arith)) (only-length _ _ _ _ (omega arith))
 
 complex-own : toldOf ComplexEigenvalues .number ≤ 9 → ⊥
 unfolding toldOf
@@ -75,65 +71,68 @@ complex-own h = omega arith
 -- ---- the reader
 
 module _ (n : ℕ) (t values : List Float) where
-  abbrev lengths : Bool
-  lengths = eqb (length t) (n * n) && eqb (length values) n
+  abbrev lengths : Checked
+  lengths = realLengths n (length t) (length values)
 
   abbrev answer : Checked
   answer = realRead n t values .answer
 
+  lengths-pass : length t ≡ n * n → length values ≡ n → lengths ≡ Passed
+  unfolding realLengths
+  lengths-pass square room = next-passes (length-passes _ square) (length-passes _ room)
+
   -- what both readers check passes exactly on a T that may be read
   given-readable : Given n t values → readable lengths n t ≡ Passed
-  unfolding readable refuse refuseAt _next_
+  unfolding readable refuseAt
   given-readable g =
-      let some = g .some in
-      rw (ne-eqb n 0 (λ e. omega arith), le-ltb 64 n (g .order), eq-eqb _ _ (g .square), eq-eqb _ _ (g .room), finite-nowhere n t (g .finite), shape-nowhere n t (g .shape))
+      next-passes (given-passes (record { some = g .some; order = g .order; lent = lengths-pass (g .square) (g .room); entries = finite-nowhere n t (g .finite) }))
+      (rw (shape-nowhere n t (g .shape)))
 
   readable-given : readable lengths n t ≡ Passed → Given n t values
-  unfolding readable
+  unfolding readable realLengths
   readable-given h =
       let a = next-passed _ _ h in
-      let d = next-passed _ _ (next-passed _ _ (next-passed _ _ (a .1) .1) .1) in
-      let f = readable-fit n t (eqb (length values) n) h in
-      let none = eqb-false n 0 (refuse-passed _ _ (a .0)) in
+      let g = given-passed _ n t (a .0) in
+      let f = readable-fit n t (lengthCheck WrongLength (length values) n) h in
       record {
-        some = omega arith;
+        some = g .some;
         order = f .order;
         square = f .size;
-        room = eqb-true _ _ (f .room);
-        finite = nowhere-finite n t (f .order) (f .size) (refuseAt-passed _ _ (d .0));
-        shape = nowhere-shape n t (f .order) (f .size) (refuseAt-passed _ _ (d .1));
+        room = length-passed _ (length values) n (f .room);
+        finite = nowhere-finite n t (f .order) (f .size) (g .entries);
+        shape = nowhere-shape n t (f .order) (f .size) (refuseAt-passed _ _ (a .1));
       }
 
   -- on such a T it answers one of two: passed, or 'complex'
-  pub given-answer : Given n t values → answer ≡ refuse (anyPaired n t) ComplexEigenvalues
-  unfolding realRead realChecks
+  pub given-answer : Given n t values → answer ≡ pairCheck n t
+  unfolding realRead realChecks listed
   given-answer g = next-on _ _ (given-readable g)
 
   -- the list by the answer
   passed-values : answer ≡ Passed → realRead n t values .values ≡ diagonal n t
-  unfolding realRead ifPassed
+  unfolding realRead listed ifPassed
   passed-values h = rw h
 
   refused-values : {r : Refusal} → answer ≡ Refused r → realRead n t values .values ≡ values
-  unfolding realRead ifPassed
+  unfolding realRead listed ifPassed
   refused-values h = rw h
 
   answers-real : Given n t values → AllZeroBelow n t → answer ≡ Passed
-  unfolding refuse
+  unfolding pairCheck refuse
   answers-real g z = given-answer g ∙ ap (λ b. refuse b ComplexEigenvalues) (zero-none n t z)
 
   answers-complex : Given n t values → OneNotZero n t → answer ≡ Refused ComplexEigenvalues
-  unfolding refuse
+  unfolding pairCheck refuse
   answers-complex g o = given-answer g ∙ ap (λ b. refuse b ComplexEigenvalues) (nonzero-any n t o)
 
   real-only : answer ≡ Passed → Given n t values × AllZeroBelow n t
-  unfolding realRead realChecks
+  unfolding realRead realChecks listed pairCheck
   real-only h = let a = next-passed _ _ h in (readable-given (a .0), none-zero n t (refuse-passed _ _ (a .1)))
 
   complex-only : answer ≡ Refused ComplexEigenvalues → Given n t values × OneNotZero n t
-  unfolding realRead realChecks
+  unfolding realRead realChecks listed pairCheck
   complex-only h =
-      let a = next-second _ _ _ (readable-numbers lengths n t) complex-own h in
+      let a = next-second _ _ _ (readable-numbers lengths n t (lengths-numbers n _ _)) complex-own h in
       (readable-given (a .0), any-nonzero n t (refuse-refused _ _ (a .1)))
 
   pub real-answer : RealAnswer n t values answer (realRead n t values .values)
@@ -145,29 +144,19 @@ module _ (n : ℕ) (t values : List Float) where
   }
 
   -- what `eigenvalues` promises
-  pub real-held : (r : Checked) (after : List Float) → read r after ≡ realRead n t values → RealAnswer n t values r after
-  real-held r after e = subst (λ (x : Read). RealAnswer n t values (x .answer) (x .values)) (sym e) real-answer
+  pub real-held : (r : Checked) (after : List Float) → read r after ≡ realRead n t values → (read r after ≡ realRead n t values) × RealAnswer n t values r after
+  real-held r after e = (e, subst (λ (x : Read). RealAnswer n t values (x .answer) (x .values)) (sym e) real-answer)
 
--- ---- an accepted T may be read
+  -- ---- where entries and shape are not looked at
 
-module _ (wanted : Bool) (n : ℕ) (tolerance : Float) (budget : ℕ) (m : List Float) (p : Pair) (w values : List Float) where
-  abbrev decomposed : Outcome
-  decomposed = decompositionOf wanted n tolerance budget m p w
+  -- 10 alone decides, if all that is lent has its length
+  pub diagonal-fits : 1 ≤ n → n ≤ 64 → length t ≡ n * n → length values ≡ n → diagonalIfReal n t values ≡ listed (read (pairCheck n t) (diagonal n t)) values
+  unfolding diagonalIfReal
+  diagonal-fits some order square room =
+      ap (λ c. listed (read c (diagonal n t)) values) (next-on _ _ (order-passes some order) ∙ next-on _ _ (lengths-pass square room))
 
-  pub accepted-given : {c : ℕ} → decomposed .answer ≡ Accepted c → length values ≡ n → Given n (decomposed .pair .t) values
-  accepted-given e l =
-      let h = accepted-passed wanted n tolerance budget m p w e in
-      let r = all-right _ _ _ _ _ h in
-      record {
-        some = r .some;
-        order = r .order;
-        square = t-square wanted n tolerance budget m p w h;
-        room = l;
-        finite = accepted-finite wanted n tolerance budget m p w e;
-        shape = accepted-shape wanted n tolerance budget m p w e;
-      }
-
-  -- so no other refusal is met there
-  pub accepted-read : {c : ℕ} → decomposed .answer ≡ Accepted c → length values ≡ n
-      → realRead n (decomposed .pair .t) values .answer ≡ refuse (anyPaired n (decomposed .pair .t)) ComplexEigenvalues
-  accepted-read e l = given-answer n (decomposed .pair .t) values (accepted-given e l)
+  -- so on a T that may be read the reader's answer is given
+  pub given-diagonal : Given n t values → diagonalIfReal n t values ≡ realRead n t values
+  unfolding realRead realChecks
+  given-diagonal g =
+      diagonal-fits (g .some) (g .order) (g .square) (g .room) ∙ sym (ap (λ c. listed (read c (diagonal n t)) values) (next-on _ _ (given-readable g)))

@@ -1,7 +1,7 @@
 -- Worked cases, by evaluation: patterns in, patterns out. The eigenvalues were computed by the plain model of the Rust, oracle/src/model.rs; the refusals
--- and the places that they tell are document 01's, which the Rust does not have. a, b, d, e, h, i, l and n are matrices with known outcomes of document 01.
+-- and the places that they tell are document 01's, which the Rust does not have. b, d, h, i and n are matrices with known outcomes of document 01.
 use mathlib.Core.Path.{_≡_, refl}
-use Prim.Native.Nat.{ℕ, _*_}
+use Prim.Native.Nat.{ℕ}
 use mathlib.Core.List.{List, [], _∷_, map}
 use lib.Ieee.{Float, sub, neg, eq}
 use Rattle.loops.specs.Constants.{one}
@@ -17,25 +17,21 @@ use Rattle.refusal.specs.declared.refusal.Checked.{Checked}
 use Rattle.refusal.specs.declared.refusal.Checked.the-variants.{Passed, Refused}
 use Rattle.refusal.specs.Refusal.{toldOf, refuse, refuseAt, _next_, ifPassed}
 use Rattle.refusal.specs.Search.{firstRow, firstCol, firstPlace, firstOnDiagonal, notFinite, spoils, firstNotFinite, firstSpoiling}
-use Rattle.decomposition.specs.Known.{openedDecomposition}
+use Rattle.refusal.specs.Checks.{orderChecks, lengthCheck, entryChecks, givenChecks}
 use Rattle.eigenvalues.specs.Blocks.{paired, pairOf, answerAt, notComplex, upper, lower, follows, answerBefore, eigenvalueAt}
-use Rattle.eigenvalues.specs.Readers.{Read, ComplexRead, readable, anyPaired, realChecks, diagonal, realRead, notFiniteAt, complexChecks, complexRead}
-use Rattle.eigenvalues.specs.Plain.{plainChecks, plainTwo, complexChecked, plainRun, plainRead, listed, plainBegun, plainOf}
+use Rattle.eigenvalues.specs.Readers.{Read, ComplexRead, readable, anyPaired, pairCheck, realChecks, diagonal, listed, realLengths, realRead, diagonalIfReal, notFiniteAt, complexChecks, complexLengths, complexRead}
 
 -- every definition that a case computes with
 unfoldable pub openedReaders : Unit {0}
 unfolding opened until firstFrom table isFinite blockAt discriminant toldOf refuse refuseAt _next_ ifPassed
-    firstRow firstCol firstPlace firstOnDiagonal notFinite spoils firstNotFinite firstSpoiling
-    paired pairOf answerAt notComplex upper lower follows answerBefore eigenvalueAt readable anyPaired realChecks diagonal realRead notFiniteAt complexChecks complexRead
+    firstRow firstCol firstPlace firstOnDiagonal notFinite spoils firstNotFinite firstSpoiling orderChecks lengthCheck entryChecks givenChecks
+    paired pairOf answerAt notComplex upper lower follows answerBefore eigenvalueAt readable anyPaired pairCheck realChecks diagonal listed realLengths realRead diagonalIfReal
+    notFiniteAt complexChecks complexLengths complexRead
     sub neg eq
 openedReaders = tt
 
-unfoldable pub openedPlain : Unit {0}
-unfolding openedReaders openedDecomposition plainChecks plainTwo complexChecked plainRun plainRead listed plainBegun plainOf
-openedPlain = tt
-
 -- 0; or the number of the refusal and its place
-answerOf : Checked → List ℕ
+unfoldable pub answerOf : Checked → List ℕ
 answerOf Passed = 0 ∷ []
 answerOf (Refused r) = let x = toldOf r in x .number ∷ x .row ∷ x .col ∷ []
 
@@ -51,10 +47,10 @@ pub record Case : Type 0 where
   pub order : ℕ
   pub matrix : List ℕ
 
-case : ℕ → List ℕ → Case
+unfoldable pub case : ℕ → List ℕ → Case
 case n t = record { order = n; matrix = t }
 
-lent : ℕ → List Float
+unfoldable pub lent : ℕ → List Float
 lent n = times (λ _ w. one ∷ w) n []
 
 real : Case → List (List ℕ)
@@ -78,6 +74,14 @@ reals : map real triangular
     ∷ ((0 ∷ []) ∷ (0x3fd3_3333_3333_3333 ∷ 0x3fb9_9999_9999_999a ∷ 0x8000_0000_0000_0000 ∷ []) ∷ []) ∷ []
 unfolding openedReaders triangular case lent real told answerOf
 reals = refl
+
+-- entries and shape are right here, and need no look
+unlooked : Case → List (List ℕ)
+unlooked c = told (diagonalIfReal (c .order) (numbers (c .matrix)) (lent (c .order)))
+
+diagonals : map unlooked triangular ≡ map real triangular
+unfolding openedReaders triangular case lent unlooked real told answerOf
+diagonals = refl
 
 -- the complex reader's are the same, with +0 beside each
 singles : map complex triangular
@@ -126,7 +130,7 @@ pub record Fault : Type 0 where
   pub of : Case
   pub answer : List ℕ
 
-fault : ℕ → List ℕ → List ℕ → Fault
+unfoldable pub fault : ℕ → List ℕ → List ℕ → Fault
 fault n t answer = record { of = case n t; answer = answer }
 
 realKept : Fault → List (List ℕ)
@@ -176,47 +180,3 @@ lengths : told (realRead 1 (one ∷ []) []) ∷ complexTold (complexRead 1 (one 
     ≡ ((3 ∷ 0 ∷ 0 ∷ []) ∷ [] ∷ []) ∷ ((3 ∷ 0 ∷ 0 ∷ []) ∷ [] ∷ shown (one ∷ []) ∷ []) ∷ ((3 ∷ 0 ∷ 0 ∷ []) ∷ shown (one ∷ []) ∷ shown (one ∷ one ∷ []) ∷ []) ∷ []
 unfolding openedReaders told complexTold answerOf
 lengths = refl
-
--- ---- the plain entry; its workspace is lent full of ones, and +0 after a run
-
-plainly : Case → List (List ℕ)
-plainly c = let p = plainOf (c .order) (numbers (c .matrix)) (lent (c .order)) (lent (2 * c .order)) in answerOf (p .answer) ∷ shown (p .values) ∷ shown (p .work) ∷ []
-
--- a; rows (2 0), (0 3): the larger first; rows (1 2), (3 4); d; rows (1 2 3), (2 5 6), (3 6 9), after some passes
-plainOnes : map plainly (
-    case 1 (0x4014_0000_0000_0000 ∷ [])
-    ∷ case 2 (0x4000_0000_0000_0000 ∷ 0 ∷ 0 ∷ 0x4008_0000_0000_0000 ∷ [])
-    ∷ case 2 (0x3ff0_0000_0000_0000 ∷ 0x4008_0000_0000_0000 ∷ 0x4000_0000_0000_0000 ∷ 0x4010_0000_0000_0000 ∷ [])
-    ∷ case 3 (0x3ff0_0000_0000_0000 ∷ 0 ∷ 0 ∷ 0 ∷ 0x4000_0000_0000_0000 ∷ 0 ∷ 0 ∷ 0 ∷ 0x4010_0000_0000_0000 ∷ [])
-    ∷ case 3 (0x3ff0_0000_0000_0000 ∷ 0x4000_0000_0000_0000 ∷ 0x4008_0000_0000_0000 ∷ 0x4000_0000_0000_0000 ∷ 0x4014_0000_0000_0000 ∷ 0x4018_0000_0000_0000
-    ∷ 0x4008_0000_0000_0000 ∷ 0x4018_0000_0000_0000 ∷ 0x4022_0000_0000_0000 ∷ []) ∷ [])
-    ≡ ((0 ∷ []) ∷ (0x4014_0000_0000_0000 ∷ []) ∷ (0 ∷ 0 ∷ []) ∷ [])
-    ∷ ((0 ∷ []) ∷ (0x4008_0000_0000_0000 ∷ 0x4000_0000_0000_0000 ∷ []) ∷ (0 ∷ 0 ∷ 0 ∷ 0 ∷ []) ∷ [])
-    ∷ ((0 ∷ []) ∷ (0x4015_7d37_50b1_6878 ∷ 0xbfd7_d375_0b16_8780 ∷ []) ∷ (0 ∷ 0 ∷ 0 ∷ 0 ∷ []) ∷ [])
-    ∷ ((0 ∷ []) ∷ (0x3ff0_0000_0000_0000 ∷ 0x4000_0000_0000_0000 ∷ 0x4010_0000_0000_0000 ∷ []) ∷ (0 ∷ 0 ∷ 0 ∷ 0 ∷ 0 ∷ 0 ∷ []) ∷ [])
-    ∷ ((0 ∷ []) ∷ (0x402c_99f9_f8a4_86ff ∷ 0x3ca5_02bb_9e9a_1d0a ∷ 0x3fe6_6060_75b7_9097 ∷ []) ∷ (0 ∷ 0 ∷ 0 ∷ 0 ∷ 0 ∷ 0 ∷ []) ∷ []) ∷ []
-unfolding openedPlain case lent plainly answerOf
-plainOnes = refl
-
--- refused before the run: order 0; the matrix of another length; an infinity in row 1 of column 0. After it: b, J; e, J and then 2; l, both values
--- infinite; rows (2^1023 0), (0 2^1023), whose trace is not finite
-plainBefore : List Fault
-plainBefore =
-    fault 0 [] (1 ∷ 0 ∷ 0 ∷ [])
-    ∷ fault 2 (0x7ff0_0000_0000_0000 ∷ 0 ∷ 0 ∷ []) (3 ∷ 0 ∷ 0 ∷ [])
-    ∷ fault 2 (0 ∷ 0x7ff0_0000_0000_0000 ∷ 0x7ff8_0000_0000_0000 ∷ 0 ∷ []) (6 ∷ 1 ∷ 0 ∷ []) ∷ []
-
-plainAfter : List Fault
-plainAfter =
-    fault 2 (0 ∷ 0x3ff0_0000_0000_0000 ∷ 0xbff0_0000_0000_0000 ∷ 0 ∷ []) (10 ∷ 0 ∷ 0 ∷ [])
-    ∷ fault 3 (0 ∷ 0x3ff0_0000_0000_0000 ∷ 0 ∷ 0xbff0_0000_0000_0000 ∷ 0 ∷ 0 ∷ 0 ∷ 0 ∷ 0x4000_0000_0000_0000 ∷ []) (10 ∷ 0 ∷ 0 ∷ [])
-    ∷ fault 2 (0 ∷ 0x6bb0_0000_0000_0000 ∷ 0x6bb0_0000_0000_0000 ∷ 0 ∷ []) (8 ∷ 0 ∷ 0 ∷ [])
-    ∷ fault 2 (0x7fe0_0000_0000_0000 ∷ 0 ∷ 0 ∷ 0x7fe0_0000_0000_0000 ∷ []) (8 ∷ 0 ∷ 0 ∷ []) ∷ []
-
-plainRefused : map (λ f. plainly (f .of)) plainBefore ≡ map (λ f. f .answer ∷ shown (lent (f .of .order)) ∷ shown (lent (2 * f .of .order)) ∷ []) plainBefore
-unfolding openedPlain plainBefore fault case lent plainly answerOf
-plainRefused = refl
-
-plainSpoilt : map (λ f. plainly (f .of)) plainAfter ≡ map (λ f. f .answer ∷ shown (lent (f .of .order)) ∷ times (λ _ w. 0 ∷ w) (2 * f .of .order) [] ∷ []) plainAfter
-unfolding openedPlain plainAfter fault case lent plainly answerOf
-plainSpoilt = refl

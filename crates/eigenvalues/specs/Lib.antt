@@ -1,7 +1,6 @@
--- Eigenvalues. `Blocks`: the blocks on T's diagonal and what each answers; `Readers`: the real and the complex reader of a given T; `Real`: what the real
--- reader promises; `Plain`: the plain entry; `Known`: worked cases.
+-- The readers of a given T. `Blocks`: the blocks on T's diagonal and what each answers; `Readers`: the real and the complex reader; `Real`: what the
+-- real reader promises; `Known`: worked cases.
 pub mod Blocks
 pub mod Readers
 pub mod Real
-pub mod Plain
 pub mod Known

@@ -2,7 +2,6 @@
 use Prim.Native.Nat.{ℕ, _*_}
 use mathlib.Core.Bool.{Bool, not, _&&_}
 use mathlib.Core.List.{List}
-use lib.Dec.{ltb, eqb}
 use lib.ListN.{length}
 use lib.Ieee.{Float}
 use Rattle.loops.specs.First.{some}
@@ -10,20 +9,16 @@ use Rattle.loops.specs.Place.{place}
 use Rattle.loops.specs.Rounded.{_!_}
 use Rattle.loops.specs.Table.{table}
 use Rattle.scalar.specs.Class.{isFinite}
-use Rattle.refusal.specs.declared.refusal.Refusal.the-variants.{OrderZero, OrderTooLarge, WrongLength, EntryNotFinite, ResultNotFinite, ShapeSpoiled, ComplexEigenvalues, BlockNotComplex}
+use Rattle.refusal.specs.declared.refusal.Refusal.the-variants.{WrongLength, ResultNotFinite, ShapeSpoiled, ComplexEigenvalues, BlockNotComplex}
 use Rattle.refusal.specs.declared.refusal.Checked.{Checked}
 use Rattle.refusal.specs.Refusal.{refuse, refuseAt, _next_, ifPassed}
-use Rattle.refusal.specs.Search.{firstOnDiagonal, firstNotFinite, firstSpoiling}
+use Rattle.refusal.specs.Search.{firstOnDiagonal, firstSpoiling}
+use Rattle.refusal.specs.Checks.{orderChecks, lengthCheck, givenChecks}
 use Rattle.eigenvalues.specs.Blocks.{paired, notComplex, eigenvalueAt}
 
--- what both check, in the order of document 01's table; `lengths` says whether every lent slice has its length
-unfoldable pub readable : (lengths : Bool) → (n : ℕ) → (t : List Float) → Checked
-readable lengths n t =
-    refuse (eqb n 0) OrderZero
-    next refuse (ltb 64 n) OrderTooLarge
-    next refuse (not lengths) WrongLength
-    next refuseAt EntryNotFinite (firstNotFinite n t)
-    next refuseAt ShapeSpoiled (firstSpoiling n t)
+-- what both check, in the order of document 01's table; `lengths` are the checks of all that is lent
+unfoldable pub readable : (lengths : Checked) → (n : ℕ) → (t : List Float) → Checked
+readable lengths n t = givenChecks lengths n t next refuseAt ShapeSpoiled (firstSpoiling n t)
 
 -- ---- the real reader
 
@@ -31,8 +26,12 @@ readable lengths n t =
 unfoldable pub anyPaired : ℕ → List Float → Bool
 anyPaired n t = some (paired n t) 0 n
 
-unfoldable pub realChecks : (lengths : Bool) → (n : ℕ) → (t : List Float) → Checked
-realChecks lengths n t = readable lengths n t next refuse (anyPaired n t) ComplexEigenvalues
+-- 10
+unfoldable pub pairCheck : ℕ → List Float → Checked
+pairCheck n t = refuse (anyPaired n t) ComplexEigenvalues
+
+unfoldable pub realChecks : (lengths : Checked) → (n : ℕ) → (t : List Float) → Checked
+realChecks lengths n t = readable lengths n t next pairCheck n t
 
 unfoldable pub diagonal : ℕ → List Float → List Float
 diagonal n t = table n (λ k. t ! place n k k)
@@ -45,17 +44,28 @@ pub record Read : Type 0 where
 abbrev pub read : Checked → List Float → Read
 read answer values = record { answer = answer; values = values }
 
+-- what the lent list holds then: it is untouched where the answer is a refusal
+unfoldable pub listed : Read → List Float → Read
+listed r values = read (r .answer) (ifPassed (r .answer) (r .values) values)
+
+-- T, and one number for each row
+unfoldable pub realLengths : (n tn vn : ℕ) → Checked
+realLengths n tn vn = lengthCheck WrongLength tn (n * n) next lengthCheck WrongLength vn n
+
 unfoldable pub realRead : ℕ → List Float → List Float → Read
-realRead n t values =
-    let c = realChecks (eqb (length t) (n * n) && eqb (length values) n) n t in
-    read c (ifPassed c (diagonal n t) values)
+realRead n t values = listed (read (realChecks (realLengths n (length t) (length values)) n t) (diagonal n t)) values
+
+-- The same where T's entries and its shape need no look, as those of an accepted T: 6 and 9 are not checked.
+unfoldable pub diagonalIfReal : ℕ → List Float → List Float → Read
+diagonalIfReal n t values =
+    listed (read (orderChecks n next realLengths n (length t) (length values) next pairCheck n t) (diagonal n t)) values
 
 -- ---- the complex reader
 
 unfoldable pub notFiniteAt : (n : ℕ) → (t : List Float) → (k : ℕ) → Bool
 notFiniteAt n t k = let e = eigenvalueAt n t k in not (isFinite (e .re) && isFinite (e .im))
 
-unfoldable pub complexChecks : (lengths : Bool) → (n : ℕ) → (t : List Float) → Checked
+unfoldable pub complexChecks : (lengths : Checked) → (n : ℕ) → (t : List Float) → Checked
 complexChecks lengths n t =
     readable lengths n t
     next refuseAt BlockNotComplex (firstOnDiagonal (notComplex n t) n)
@@ -70,7 +80,11 @@ pub record ComplexRead : Type 0 where
 abbrev pub complexly : Checked → List Float → List Float → ComplexRead
 complexly answer re im = record { answer = answer; re = re; im = im }
 
+-- T, and two numbers for each row
+unfoldable pub complexLengths : (n tn re im : ℕ) → Checked
+complexLengths n tn re im = lengthCheck WrongLength tn (n * n) next lengthCheck WrongLength re n next lengthCheck WrongLength im n
+
 unfoldable pub complexRead : ℕ → List Float → List Float → List Float → ComplexRead
 complexRead n t re im =
-    let c = complexChecks (eqb (length t) (n * n) && (eqb (length re) n && eqb (length im) n)) n t in
+    let c = complexChecks (complexLengths n (length t) (length re) (length im)) n t in
     complexly c (ifPassed c (table n (λ k. eigenvalueAt n t k .re)) re) (ifPassed c (table n (λ k. eigenvalueAt n t k .im)) im)

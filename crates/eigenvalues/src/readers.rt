@@ -1,15 +1,14 @@
 // The readers of a given T, a matrix of order n that lies column by column in one slice.
 ghost use mathlib.Core.Path.{_≡_};
-ghost use mathlib.Core.Bool.{_&&_};
-ghost use lib.Dec.{eqb};
 ghost use lib.ListN.{length};
 ghost use Prim.Native.Nat.{_*_, _<_, _≤_};
 ghost use Rattle.loops.specs.Table.{table};
-ghost use Rattle.refusal.specs.declared.refusal.Refusal.the-variants.{EntryNotFinite, ShapeSpoiled};
-ghost use Rattle.refusal.specs.Refusal.{refuseAt, _next_};
-ghost use Rattle.refusal.specs.Search.{firstOnDiagonal, firstNotFinite, firstSpoiling};
+ghost use Rattle.refusal.specs.declared.refusal.Refusal.the-variants.{WrongLength};
+ghost use Rattle.refusal.specs.Refusal.{_next_};
+ghost use Rattle.refusal.specs.Search.{firstOnDiagonal};
+ghost use Rattle.refusal.specs.Checks.{lengthCheck};
 ghost use Rattle.eigenvalues.specs.Blocks.{notComplex, eigenvalueAt};
-ghost use Rattle.eigenvalues.specs.Readers.{readable, anyPaired, realChecks, diagonal, read, realRead, notFiniteAt, complexChecks, complexly, complexRead};
+ghost use Rattle.eigenvalues.specs.Readers.{readable, anyPaired, pairCheck, diagonal, read, listed, realRead, diagonalIfReal, notFiniteAt, complexChecks, complexly, complexRead};
 ghost use Rattle.eigenvalues.specs.Real.{RealAnswer};
 use crate::block::BlockAnswer;
 use crate::block::answer_at;
@@ -22,39 +21,19 @@ use refusal::Place;
 use refusal::Refusal;
 use refusal::Search;
 
-// The entries, then the shape.
-fn check_matrix(t: &[f64], n: usize) -> Checked
-    ensures { λ r. ⌜ r ≡ (refuseAt EntryNotFinite (firstNotFinite n (now (t .entry))) next refuseAt ShapeSpoiled (firstSpoiling n (now (t .entry)))) ⌝ }
+// What both check, in the order of document 01's table; the lengths of the lent lists have come to `lists`.
+fn readable(t: &[f64], n: usize, lists: Checked) -> Checked
+    ensures { λ r. ⌜ r ≡ readable (lengthCheck WrongLength (length (now (t .entry))) (n * n) next lists) n (now (t .entry)) ⌝ }
 {
-    let checked = refusal::check_entries(t, n);
+    let checked = refusal::check_given(t, n, lists);
     let Checked::Passed = checked else {
         return checked;
     };
     refusal::check_shape(t, n)
 }
 
-// What both check, in the order of document 01's table; `lists` says whether every lent list of eigenvalues
-// has its length.
-fn readable(t: &[f64], n: usize, lists: bool) -> Checked
-    ensures { λ r. ⌜ r ≡ readable (eqb (length (now (t .entry))) (n * n) && lists) n (now (t .entry)) ⌝ }
-{
-    if n == 0 {
-        return Checked::Refused(Refusal::OrderZero);
-    }
-    if n > 64 {
-        return Checked::Refused(Refusal::OrderTooLarge);
-    }
-    if t.len() != n * n {
-        return Checked::Refused(Refusal::WrongLength);
-    }
-    if !lists {
-        return Checked::Refused(Refusal::WrongLength);
-    }
-    check_matrix(t, n)
-}
-
 // Whether some block of two stands.
-pub(crate) fn any_paired(t: &[f64], n: usize) -> bool
+fn any_paired(t: &[f64], n: usize) -> bool
     requires { ⌜ (n ≤ 64) × (length (now t) ≡ n * n) ⌝ }
     ensures { λ r. ⌜ r ≡ anyPaired n (now (t .entry)) ⌝ }
 {
@@ -68,22 +47,8 @@ pub(crate) fn any_paired(t: &[f64], n: usize) -> bool
     false
 }
 
-// All that the real reader checks.
-fn real_checks(t: &[f64], n: usize, lists: bool) -> Checked
-    ensures { λ r. ⌜ r ≡ realChecks (eqb (length (now (t .entry))) (n * n) && lists) n (now (t .entry)) ⌝ }
-{
-    let checked = readable(t, n, lists);
-    let Checked::Passed = checked else {
-        return checked;
-    };
-    if any_paired(t, n) {
-        return Checked::Refused(Refusal::ComplexEigenvalues);
-    }
-    checked
-}
-
 // The diagonal, bit for bit.
-pub(crate) fn do_eigenvalues(t: &[f64], n: usize, values: &mut [f64])
+fn do_eigenvalues(t: &[f64], n: usize, values: &mut [f64])
     requires { ⌜ (n ≤ 64) × (length (now t) ≡ n * n) × (length (now values) ≡ n) ⌝ }
     ensures { λ _. ⌜ now (values .exit) ≡ diagonal n (now (t .entry)) ⌝ }
 {
@@ -92,17 +57,42 @@ pub(crate) fn do_eigenvalues(t: &[f64], n: usize, values: &mut [f64])
     }
 }
 
+// The diagonal, if no block of two stands: else 10, and `values` is left as it was.
+fn diagonal_of(t: &[f64], n: usize, values: &mut [f64]) -> Checked
+    requires { ⌜ (n ≤ 64) × (length (now t) ≡ n * n) × (length (now values) ≡ n) ⌝ }
+    ensures { λ r. ⌜ read r (now (values .exit)) ≡ listed (read (pairCheck n (now (t .entry))) (diagonal n (now (t .entry)))) (now (values .entry)) ⌝ }
+{
+    if any_paired(t, n) {
+        return Checked::Refused(Refusal::ComplexEigenvalues);
+    }
+    do_eigenvalues(t, n, values);
+    Checked::Passed
+}
+
 // The eigenvalues of T, if all are real. A refusal leaves `values` as it was.
 pub fn eigenvalues(t: &[f64], n: usize, values: &mut [f64]) -> Checked
     ensures { λ r. ⌜ read r (now (values .exit)) ≡ realRead n (now (t .entry)) (now (values .entry)) ⌝ }
     ensures { λ r. ⌜ RealAnswer n (now (t .entry)) (now (values .entry)) r (now (values .exit)) ⌝ }
 {
-    let checked = real_checks(t, n, values.len() == n);
+    let list = refusal::check_length(values.len(), n, Refusal::WrongLength);
+    let checked = readable(t, n, list);
     let Checked::Passed = checked else {
         return checked;
     };
-    do_eigenvalues(t, n, values);
-    checked
+    diagonal_of(t, n, values)
+}
+
+// The same for a T whose entries and shape are known to be right, as an accepted T's are: they are not looked at
+// again.
+pub fn diagonal_if_real(t: &[f64], n: usize, values: &mut [f64]) -> Checked
+    ensures { λ r. ⌜ read r (now (values .exit)) ≡ diagonalIfReal n (now (t .entry)) (now (values .entry)) ⌝ }
+{
+    let list = refusal::check_length(values.len(), n, Refusal::WrongLength);
+    let checked = refusal::check_sizes(n, t.len(), list);
+    let Checked::Passed = checked else {
+        return checked;
+    };
+    diagonal_of(t, n, values)
 }
 
 // The first block that is not complex.
@@ -140,8 +130,8 @@ fn first_value_not_finite(t: &[f64], n: usize) -> Search
 }
 
 // All that the complex reader checks.
-fn complex_checks(t: &[f64], n: usize, lists: bool) -> Checked
-    ensures { λ r. ⌜ r ≡ complexChecks (eqb (length (now (t .entry))) (n * n) && lists) n (now (t .entry)) ⌝ }
+fn complex_checks(t: &[f64], n: usize, lists: Checked) -> Checked
+    ensures { λ r. ⌜ r ≡ complexChecks (lengthCheck WrongLength (length (now (t .entry))) (n * n) next lists) n (now (t .entry)) ⌝ }
 {
     let checked = readable(t, n, lists);
     let Checked::Passed = checked else {
@@ -172,21 +162,22 @@ fn do_complex_eigenvalues(t: &[f64], n: usize, re: &mut [f64], im: &mut [f64])
     }
 }
 
-// Whether two lists have one number for each row.
-fn both_fit(n: usize, re: usize, im: usize) -> bool
-    ensures { λ r. ⌜ r ≡ (eqb re n && eqb im n) ⌝ }
+// Each list has one number for each row.
+fn check_lists(n: usize, re: usize, im: usize) -> Checked
+    ensures { λ r. ⌜ r ≡ (lengthCheck WrongLength re n next lengthCheck WrongLength im n) ⌝ }
 {
-    if re != n {
-        return false;
-    }
-    im == n
+    let checked = refusal::check_length(re, n, Refusal::WrongLength);
+    let Checked::Passed = checked else {
+        return checked;
+    };
+    refusal::check_length(im, n, Refusal::WrongLength)
 }
 
 // The eigenvalues of T, by their real and imaginary parts. A refusal leaves both lists as they were.
 pub fn complex_eigenvalues(t: &[f64], n: usize, re: &mut [f64], im: &mut [f64]) -> Checked
     ensures { λ r. ⌜ complexly r (now (re .exit)) (now (im .exit)) ≡ complexRead n (now (t .entry)) (now (re .entry)) (now (im .entry)) ⌝ }
 {
-    let checked = complex_checks(t, n, both_fit(n, re.len(), im.len()));
+    let checked = complex_checks(t, n, check_lists(n, re.len(), im.len()));
     let Checked::Passed = checked else {
         return checked;
     };

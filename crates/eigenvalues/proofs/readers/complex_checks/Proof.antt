@@ -3,8 +3,9 @@ use native.Mathlib.Omega.{arith}
 use mathlib.Core.Path.{sym, _∙_}
 use lib.ListN.{length}
 use Rattle.refusal.specs.Refusal.{refuseAt, _next_}
+use Rattle.refusal.proofs.Checking.{next-first}
 use Rattle.eigenvalues.specs.Readers.{complexChecks}
-use Rattle.eigenvalues.proofs.Checking.{Fit, next-first, readable-fit}
+use Rattle.eigenvalues.proofs.Checking.{Fit, readable-fit}
 use Rattle.eigenvalues.proofs.readers.complex_checks.Statement.{statement}
 use Rattle.eigenvalues.proofs.readers.complex_checks.Tie as tie
 
@@ -14,7 +15,7 @@ fitted c = readable-fit _ (c .before .before .before .before .args .t .now) _ (s
 
 returns : tie.Need-returns
 unfolding complexChecks
-returns c = rw (← c .before .before .readable .ensures) (next-first _ _ (c .enum-told2 .given .1))
+returns c = next-first _ (c .before .before .readable .ensures) (c .enum-told2 .given .1)
 
 returns-2 : tie.Need-returns-2
 unfolding complexChecks refuseAt _next_
