@@ -1,0 +1,150 @@
+-- The plain entry is the decomposition without Q, with the tolerance 2 ^ -52 and the budget 10,000, and the real reader's last check; at order 2 it makes no
+-- run. So what is proved of 7 and 9 for the decomposition holds of the plain entry's 7 and 9. Assumes nothing.
+use Prim.Native.Nat.{ℕ}
+use mathlib.Core.Bool.{Bool, true, false, cond}
+use mathlib.Core.Path.{_≡_, refl, sym, ap, _∙_, subst}
+use mathlib.Core.List.{List, []}
+use native.Mathlib.Omega.{arith}
+use borrow.Author.Tests.{eqb-true, ne-eqb}
+use lib.Dec.{eqb}
+use lib.Ieee.{Float, le, lt, ofBits}
+use Rattle.loops.specs.Constants.{epsilon}
+use Rattle.pass.specs.Pair.{pair}
+use Rattle.pass.specs.Block.{blockAt, eigvalsOf}
+use Rattle.pass.specs.declared.block.Eigvals.{Eigvals}
+use Rattle.pass.specs.declared.block.Eigvals.the-variants.{Real, NotReal}
+use Rattle.refusal.specs.declared.refusal.Refusal.{Refusal}
+use Rattle.refusal.specs.declared.refusal.Refusal.the-variants.{WrongLength, BudgetReached, ComplexEigenvalues}
+use Rattle.refusal.specs.declared.refusal.Checked.{Checked}
+use Rattle.refusal.specs.declared.refusal.Checked.the-variants.{Passed, Refused}
+use Rattle.refusal.specs.Refusal.{toldOf}
+use Rattle.refusal.specs.Checks.{lengthCheck, givenChecks}
+use Rattle.refusal.proofs.Checking.{next-passes, Only, only-next, only-refuse, only-at}
+use Rattle.refusal.proofs.Passing.{length-passes, matrices-passes, given-passed, only-length, only-given}
+use Rattle.schur.specs.Run.{countOf}
+use Rattle.decomposition.specs.declared.Decomposed.{Decomposed}
+use Rattle.decomposition.specs.declared.Decomposed.the-variants.{Accepted, Declined}
+use Rattle.decomposition.specs.Checks.{toleranceFits, budgetFits, allLengths}
+use Rattle.decomposition.specs.Decomposition.{Outcome, decompositionOf}
+use Rattle.decomposition.proofs.Passing.{right-passed}
+use Rattle.decomposition.proofs.Touched.{checksOf, run-judged}
+use Rattle.decomposition.proofs.Count.{refused-reached, reached-refused}
+use Rattle.eigenvalues.specs.Readers.{pairCheck, listed}
+use Rattle.plain.specs.Plain.{plainLengths, Sized, plainTwo, plainBudget, plainAsked, plainRan, complexChecked, plainRun, plainRead, plainLeft, plainBegun, plainPlacedOf, plainOf}
+use Rattle.plain.proofs.InPlace.{checks}
+use Rattle.plain.proofs.Plainly.{given-sized}
+
+-- ---- all but the run comes to other numbers than 7 and 9
+
+abbrev pub Elsewhere : Refusal → Type 0
+Elsewhere r = (toldOf r .number ≡ 7 → ⊥) × (toldOf r .number ≡ 9 → ⊥)
+
+length-elsewhere : (has needs : ℕ) → Only Elsewhere (lengthCheck WrongLength has needs)
+unfolding toldOf
+length-elsewhere has needs = only-length _ _ has needs (λ e. omega arith, λ e. omega arith)
+
+lengths-elsewhere : (n mn vn wn : ℕ) → Only Elsewhere (plainLengths n mn vn wn)
+unfolding plainLengths
+lengths-elsewhere n mn vn wn = only-next _ _ _ (length-elsewhere mn _) (only-next _ _ _ (length-elsewhere vn _) (length-elsewhere wn _))
+
+checks-elsewhere : (lengths : Checked) (n : ℕ) (m : List Float) → Only Elsewhere lengths → Only Elsewhere (givenChecks lengths n m)
+unfolding toldOf
+checks-elsewhere lengths n m h = only-given _ _ _ _ (λ e. omega arith, λ e. omega arith) (λ e. omega arith, λ e. omega arith) h (λ _. (λ e. omega arith, λ e. omega arith))
+
+two-elsewhere : (v : Eigvals) → Only Elsewhere (plainTwo v .answer)
+unfolding plainTwo toldOf
+two-elsewhere NotReal = (λ e. omega arith, λ e. omega arith)
+two-elsewhere (Real v) = only-at _ _ _ (λ _. (λ e. omega arith, λ e. omega arith))
+
+-- of an accepted T the last check comes to 10
+declined-there : {r : Refusal} (a : Decomposed) (n : ℕ) (t : List Float) → (Elsewhere r → ⊥) → complexChecked a n t ≡ Refused r → a ≡ Declined r
+unfolding complexChecked pairCheck toldOf
+declined-there (Accepted c) n t out h = absurd (out (subst (Only Elsewhere) h (only-refuse _ _ ComplexEigenvalues (λ e. omega arith, λ e. omega arith))))
+declined-there (Declined r) n t out h = cc
+
+-- ---- the checks of the decomposition pass where those of the plain entry do
+
+near : toleranceFits epsilon ≡ true
+unfolding toleranceFits le lt ofBits
+near = refl
+
+bound : budgetFits plainBudget ≡ true
+unfolding budgetFits
+bound = refl
+
+-- what is lent for Q plays no part, and for T it is as much as the matrix
+lengths-pass : {n mn vn wn : ℕ} → Sized n mn vn wn → allLengths (plainAsked n) mn mn 0 wn ≡ Passed
+unfolding allLengths
+lengths-pass z = next-passes (matrices-passes (record { m = z .square; t = z .square; q = λ e. cc })) (length-passes _ (z .room))
+
+module _ (n : ℕ) (m values w : List Float) where
+  -- what is lent for T plays no part: here it is the matrix
+  abbrev decomposed : Outcome
+  decomposed = decompositionOf (plainAsked n) plainBudget m (pair m []) w
+
+  abbrev count : ℕ
+  count = countOf (plainAsked n) plainBudget (pair m []) w
+
+  abbrev answer : Checked
+  answer = plainOf n m values w .answer
+
+  pub plain-passed : checks n m values w ≡ Passed → checksOf (plainAsked n) plainBudget m (pair m []) w ≡ Passed
+  plain-passed h =
+      let g = given-passed _ n m h in
+      let z = given-sized n _ _ _ m h in
+      right-passed (record { some = g .some; order = g .order; lent = lengths-pass z; near = near; bound = bound; entries = g .entries })
+
+  -- so the decomposition is what is said of the run
+  ran-is : checks n m values w ≡ Passed → plainRan n m w ≡ decomposed
+  ran-is h = sym (run-judged _ (plainAsked n) plainBudget m (pair m []) w (plain-passed h))
+
+  by-checks : {c : Checked} → checks n m values w ≡ c → plainPlacedOf n m values w ≡ plainBegun c n m values w
+  unfolding plainPlacedOf
+  by-checks h = ap (λ c. plainBegun c n m values w) h
+
+  plain-kept : {r : Refusal} → checks n m values w ≡ Refused r → answer ≡ Refused r
+  unfolding plainOf plainBegun
+  plain-kept h = ap (λ p. p .answer) (by-checks h)
+
+  by-order : {b : Bool} → checks n m values w ≡ Passed → eqb n 2 ≡ b → answer ≡ cond b (plainTwo (eigvalsOf (blockAt 2 0 m))) (plainRun n (plainRan n m w)) .answer
+  unfolding plainOf plainBegun listed plainRead
+  by-order h k = ap (λ p. p .answer) (by-checks h) ∙ ap (λ b. cond b (plainTwo (eigvalsOf (blockAt 2 0 m))) (plainRun n (plainRan n m w)) .answer) k
+
+  -- every order but 2
+  pub plain-is : checks n m values w ≡ Passed → eqb n 2 ≡ false → answer ≡ complexChecked (decomposed .answer) n (decomposed .pair .t)
+  unfolding plainRun
+  plain-is h k = by-order h k ∙ ap (λ o. plainRun n o .answer) (ran-is h)
+
+  -- in place the decomposition's T is left, NaN throughout where it has refused
+  pub placed-is : checks n m values w ≡ Passed → eqb n 2 ≡ false → plainPlacedOf n m values w .t ≡ decomposed .pair .t
+  unfolding plainBegun plainLeft
+  placed-is h k = ap (λ p. p .t) (by-checks h) ∙ ap (λ b. cond b m (plainRan n m w .pair .t)) k ∙ ap (λ o. o .pair .t) (ran-is h)
+
+  -- so 7 and 9 are the decomposition's
+  pub plain-run : {r : Refusal} → (Elsewhere r → ⊥) → answer ≡ Refused r → (checks n m values w ≡ Passed) × (decomposed .answer ≡ Declined r)
+  plain-run {r} out e = go (checks n m values w) refl (eqb n 2) refl
+    where
+      go : (c : Checked) → checks n m values w ≡ c → (b : Bool) → eqb n 2 ≡ b → (checks n m values w ≡ Passed) × (decomposed .answer ≡ Declined r)
+      go (Refused s) h b k = absurd (out (subst (Only Elsewhere) (h ∙ sym (plain-kept h) ∙ e) (checks-elsewhere _ n m (lengths-elsewhere n _ _ _))))
+      go Passed h true k = absurd (out (subst (Only Elsewhere) (sym (by-order h k) ∙ e) (two-elsewhere _)))
+      go Passed h false k = (h, declined-there _ n _ out (sym (plain-is h k) ∙ e))
+
+  -- 7: only where the definition's count is 10,000
+  pub plain-reached : answer ≡ Refused BudgetReached → count ≡ plainBudget
+  unfolding toldOf
+  plain-reached e =
+      let a = plain-run (λ f. f .0 refl) e in
+      refused-reached _ (plainAsked n) plainBudget m (pair m []) w (plain-passed (a .0)) (a .1)
+
+  -- and whenever it is: order 2 counts none
+  two-counts : eqb n 2 ≡ true → count ≡ 0
+  unfolding countOf
+  two-counts k = let e : n ≡ 2 = eqb-true n 2 k in rw (k, ne-eqb n 1 (λ q. omega arith))
+
+  pub reached-plain : checks n m values w ≡ Passed → count ≡ plainBudget → answer ≡ Refused BudgetReached
+  unfolding complexChecked
+  reached-plain h e = go (eqb n 2) refl
+    where
+      go : (b : Bool) → eqb n 2 ≡ b → answer ≡ Refused BudgetReached
+      go true k = absurd (omega (arith, two-counts k))
+      go false k = plain-is h k ∙ ap (λ a. complexChecked a n (decomposed .pair .t)) (reached-refused _ (plainAsked n) plainBudget m (pair m []) w (plain-passed h) e)

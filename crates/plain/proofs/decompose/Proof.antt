@@ -1,0 +1,18 @@
+-- `plain::decompose` meets its contract. Assumes nothing.
+use native.Mathlib.Omega.{arith}
+use Rattle.schur.specs.Run.{left}
+use Rattle.decomposition.specs.Decomposition.{settlement}
+use Rattle.plain.proofs.Plainly.{ran-by}
+use borrow.Author.Needs.{needs}
+use Rattle.plain.proofs.decompose.Statement.{statement}
+use Rattle.plain.proofs.decompose.Tie as tie
+
+returns : tie.Need-returns
+returns c =
+    let settled = c .before .before .before in
+    let cleared = settled .before .before .before .before in
+    let ran = cleared .before .before .before .before in
+    ran-by {l = left _ _} {s = settlement _ _} _ _ _ (ran .before .before .before .before .before .before .pre) (ran .do-decompose .ensures .0) (settled .decide .ensures) (ran .do-decompose .ensures .1) (omega arith)
+
+pub decompose-spec : {M : Type 1} → statement M
+decompose-spec = tie.close (tie.spec (λ c. search needs) (λ c κs. omega arith) (λ c. search needs) (λ c κs. omega arith) (λ c. omega arith) (λ c. omega arith) returns)

@@ -1,0 +1,25 @@
+-- `plain::plain_in` meets its contract. Assumes nothing.
+use native.Mathlib.Omega.{arith}
+use mathlib.Core.Path.{sym}
+use lib.Seq.{length-take-le}
+use Rattle.loops.specs.Place.{square-64}
+use Rattle.plain.proofs.plain_in.Statement.{statement}
+use Rattle.plain.proofs.plain_in.Tie as tie
+
+relend : tie.Need-slice-relend-prefix-plain-copied
+relend c = omega arith
+
+aggregate : tie.Need-slice-aggregate-plain-copied
+aggregate c = sym (length-take-le _ _ (relend (c .before)))
+
+plain-copied-requires : tie.Need-plain-copied-requires
+plain-copied-requires c κs =
+    let cut = c .before in
+    (cut .before .before .before .before .before .before .pre .0, sym (aggregate cut))
+
+returns : tie.Need-returns
+returns c = c .before .before .before .before .before .before .plain-copied .ensures
+
+pub plain-in-spec : {M : Type 1} → statement M
+plain-in-spec = tie.close (tie.spec (λ c. omega (arith, square-64 (c .before .before .before .before .before .args .n) (omega arith))) relend aggregate plain-copied-requires
+    (λ c. omega arith) (λ c. omega arith) (λ c. omega arith) returns)
