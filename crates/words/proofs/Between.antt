@@ -1,12 +1,13 @@
 -- The floats in between, for those who call the library over bytes: what was read, filled and written where there is room. Assumes nothing.
-use Prim.Native.Nat.{ℕ, _*_, _/_}
-use mathlib.Core.Path.{_≡_, _∙_}
+use Prim.Native.Nat.{ℕ, _*_, _/_, _≤_}
+use mathlib.Core.Path.{_≡_, ap, _∙_}
 use mathlib.Core.Bool.{cond}
 use mathlib.Core.List.{List}
 use native.Mathlib.Omega.{arith}
 use borrow.Author.Tests.{eq-eqb}
 use lib.Dec.{eqb}
-use lib.ListN.{length}
+use lib.ListN.{length, replicate, length-replicate, getD-replicate, take}
+use lib.Seq.{length-take-le, getD-take}
 use lib.Ieee.{Float, nan}
 use Rattle.loops.specs.Constants.{zero}
 use Rattle.loops.specs.Table.{table-length, table-of}
@@ -23,6 +24,16 @@ zeros-length k = table-length k _
 pub filled-zeros : (t : List Float) (k : ℕ) → length t ≡ k → filled zero t ≡ zeros k
 unfolding zeros
 filled-zeros t k e = table-of k _ (filled zero t) nan (filled-length zero t ∙ e) (λ i l. filled-at zero t i (omega arith))
+
+-- the front of a room that is fresh
+pub fresh-zeros : (k n : ℕ) → k ≤ n → take k (replicate n zero) ≡ zeros k
+unfolding zeros
+fresh-zeros k n l =
+    table-of k _ (take k (replicate n zero)) nan (length-take-le k _ (omega (arith, length-replicate {A = Float} n zero)))
+    (λ i h. getD-take k (replicate n zero) i nan h ∙ getD-replicate n i zero nan (omega arith))
+
+pub fresh-length : (k n : ℕ) → k ≤ n → k ≡ length (take k (replicate n zero))
+fresh-length k n l = omega (arith, ap length (fresh-zeros k n l), zeros-length k)
 
 pub floats-length : (m : List ℕ) (k : ℕ) → length m ≡ 8 * k → length (floatsOf m) ≡ k
 floats-length m k e = floatsOf-length m ∙ omega arith
