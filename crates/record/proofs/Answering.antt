@@ -1,52 +1,22 @@
--- The text that the definitions give, by what the library has answered. Assumes nothing.
+-- What a header that has passed its checks tells, and the text that an input has by them. Assumes nothing.
 use Prim.Native.Nat.{ℕ, _+_, _-_, _*_, _<_, _≤_}
-use mathlib.Core.Path.{_≡_, ap}
-use mathlib.Core.Bool.{true}
+use mathlib.Core.Path.{_≡_}
 use mathlib.Core.List.{List}
-use native.Mathlib.Nat.{mul-le-mul}
 use native.Mathlib.Omega.{arith}
 use borrow.Author.Tests.{eqb-true, ltb-false, lt-ltb, le-ltb, not-false}
 use lib.ListN.{length, take, drop, length-drop}
 use lib.Seq.{take-all}
-use lib.Ieee.{Float, binary64, ofBits}
-use Rattle.pass.specs.Pair.{pair}
 use Rattle.refusal.specs.declared.refusal.Refusal.{Refusal}
 use Rattle.refusal.specs.declared.refusal.Refusal.the-variants.{InputCutShort}
-use Rattle.refusal.specs.declared.refusal.Checked.{Checked}
 use Rattle.refusal.specs.declared.refusal.Checked.the-variants.{Passed, Refused}
 use Rattle.refusal.specs.Refusal.{toldOf, refuse, _next_}
 use Rattle.refusal.proofs.Checking.{next-passed, refuse-passed}
-use Rattle.words.specs.Floats.{floatsOf, zeros}
-use Rattle.decomposition.specs.declared.Decomposed.{Decomposed}
-use Rattle.decomposition.specs.Decomposition.{outcome, decompositionOf}
-use Rattle.eigenvalues.specs.Readers.{complexly, complexRead}
+use Rattle.words.specs.Floats.{floatsOf}
 use Rattle.record.specs.declared.header.Header.{Header}
 use Rattle.record.specs.Text.{refusedLine}
 use Rattle.record.specs.Record.{headerOf, headerChecks, recordChecks}
-use Rattle.record.specs.Answer.{eigenvaluesText, readText, decomposedText, matrixText, checkedText, textOf}
+use Rattle.record.specs.Answer.{matrixText, checkedText, textOf}
 
-pub square-32 : (n : ℕ) → n ≤ 32 → n * n ≤ 1024
-square-32 n h = mul-le-mul h h
-
--- of the complex reader
-pub read-text : (n : ℕ) (t : List Float) (checked : Checked) (re im re' im' : List Float) → re ≡ zeros n → im ≡ zeros n
-    → complexly checked re' im' ≡ complexRead n t re im → eigenvaluesText n checked re' im' ≡ readText n t
-unfolding readText
-read-text n t checked re im re' im' a b e =
-    rw (ap (λ r. r .answer) e, ap (λ r. r .re) e, ap (λ r. r .im) e, a, b)
-
--- of the decomposition
-pub matrix-text : (h : Header) (m : List Float) (eps : Float) (answer : Decomposed) (t q t' q' w w' : List Float) → eps ≡ ofBits binary64 (h .tolerance)
-    → t ≡ zeros (h .order * h .order) → q ≡ zeros (h .order * h .order) → w ≡ zeros (2 * h .order)
-    → outcome answer (pair t' q') w' ≡ decompositionOf true (h .order) eps (h .budget) m (pair t q) w
-    → decomposedText (h .order) answer (pair t' q') ≡ matrixText h m
-unfolding matrixText
-matrix-text h m eps answer t q t' q' w w' x a b d e =
-    rw (ap (λ o. o .answer) e, ap (λ o. o .pair) e, x, a, b, d)
-
--- ---- the header
-
--- what a header that has passed tells
 pub record Fitting (h : Header) (bytes : ℕ) : Type 0 where
   pub order : h .order ≤ 32
   pub whole : bytes ≡ 20 + 8 * (h .order * h .order)
@@ -64,11 +34,11 @@ fitting h bytes e =
     let most = ltb-false (4 + h .length) bytes (refuse-passed _ _ (f .1)) in
     record { order = ltb-false 32 (h .order) (refuse-passed _ _ (c .0)); whole = omega arith }
 
--- all that lies behind it
+-- all that lies behind a header
 pub entries-all : (b : List ℕ) → take (length b - 20) (drop 20 b) ≡ drop 20 b
 entries-all b = take-all (length b - 20) (drop 20 b) (omega (arith, length-drop 20 b))
 
--- ---- all of it
+-- ---- the text
 
 pub short-text : (b : List ℕ) → length b < 20 → textOf b ≡ refusedLine (toldOf InputCutShort)
 unfolding textOf recordChecks checkedText refuse _next_

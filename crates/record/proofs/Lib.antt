@@ -1,6 +1,6 @@
 -- Laws that other crates may cite. `One`: two answers that a contract allows are one; `Longer`: the text of an input is that of its first 8213 bytes;
 -- `Arriving`: what a read comes to. For the proofs here: `Paging`, text put on a page piece by piece; `Listing`, line after line; `Digits`, the digits of a number,
--- and how many there are; `Fields`, the fields of a header; `Answering`, the text by what the library has answered.
+-- and how many there are; `Fields`, the fields of a header; `Rooms`, how large they are; `Answering`, the text by what was found of the header.
 pub mod One
 pub mod Longer
 pub mod Arriving
@@ -8,4 +8,5 @@ mod Paging
 mod Listing
 mod Digits
 mod Fields
+mod Rooms
 mod Answering

@@ -19,7 +19,8 @@ use Rattle.record.specs.declared.header.Header.{Header}
 use Rattle.record.specs.Record.{le16, le32, headerOf, headerChecks, recordChecks}
 use Rattle.record.specs.Answer.{checkedText, textOf}
 use Rattle.record.proofs.Fields.{le64-halves}
-use Rattle.record.proofs.Answering.{square-32, fitting}
+use Rattle.record.proofs.Rooms.{square-32}
+use Rattle.record.proofs.Answering.{fitting}
 
 -- ---- the header of the first n bytes
 

@@ -5,6 +5,7 @@ use mathlib.Core.Bool.{true}
 use mathlib.Core.List.{List, _++_}
 use lib.ListN.{drop}
 use lib.Ieee.{Float, binary64, ofBits}
+use Rattle.pass.specs.Setting.{setting}
 use Rattle.pass.specs.Pair.{Pair, pair}
 use Rattle.refusal.specs.declared.refusal.Checked.{Checked}
 use Rattle.refusal.specs.declared.refusal.Checked.the-variants.{Passed, Refused}
@@ -12,7 +13,7 @@ use Rattle.refusal.specs.Refusal.{toldOf}
 use Rattle.words.specs.Floats.{floatsOf, zeros}
 use Rattle.decomposition.specs.declared.Decomposed.{Decomposed}
 use Rattle.decomposition.specs.declared.Decomposed.the-variants.{Accepted, Declined}
-use Rattle.decomposition.specs.Decomposition.{decompositionOf}
+use Rattle.decomposition.specs.Decomposition.{Outcome, placedOf}
 use Rattle.eigenvalues.specs.Readers.{complexRead}
 use Rattle.record.specs.declared.header.Header.{Header}
 use Rattle.record.specs.Text.{ascii, refusedLine, passesLine, matrixLines, eigenvalueLines}
@@ -33,13 +34,17 @@ decomposedText n (Accepted passes) p =
     passesLine n passes ++ matrixLines (code "t") n (p .t) ++ matrixLines (code "q") n (p .q) ++ readText n (p .t)
 decomposedText n (Declined r) p = refusedLine (toldOf r)
 
--- it is asked of the entries, which lie behind the header's 20 bytes
-unfoldable pub matrixText : Header → List Float → List ℕ
-matrixText h m =
+-- the decomposition that a header asks for, in place: T holds the matrix m, and Q and the workspace are +0 throughout
+unfoldable pub decomposed : Header → (m : List Float) → Outcome
+decomposed h m =
     let n = h .order in
-    let o = decompositionOf true n (ofBits binary64 (h .tolerance)) (h .budget) m (pair (zeros (n * n)) (zeros (n * n))) (zeros (2 * n)) in
-    decomposedText n (o .answer) (o .pair)
+    placedOf (setting n true (ofBits binary64 (h .tolerance))) (h .budget) (pair m (zeros (n * n))) (zeros (2 * n))
 
+-- and its text
+unfoldable pub matrixText : Header → (m : List Float) → List ℕ
+matrixText h m = let o = decomposed h m in decomposedText (h .order) (o .answer) (o .pair)
+
+-- it is asked of the entries, which lie behind the header's 20 bytes
 unfoldable pub checkedText : Checked → Header → List ℕ → List ℕ
 checkedText Passed h b = matrixText h (floatsOf (drop 20 b))
 checkedText (Refused r) h b = refusedLine (toldOf r)

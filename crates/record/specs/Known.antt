@@ -5,12 +5,13 @@ use Prim.Native.String.{String}
 use mathlib.Core.List.{List, [], _∷_, _++_, map}
 use lib.ListN.{take}
 use Rattle.loops.specs.Table.{table}
-use Rattle.eigenvalues.specs.Known.{openedPlain}
+use Rattle.decomposition.specs.Known.{openedDecomposition}
+use Rattle.eigenvalues.specs.Known.{openedReaders}
 use Rattle.words.specs.Words.{le64, byteOf}
 use Rattle.words.specs.Floats.{floatsOf, zeros}
 use Rattle.record.specs.Text.{ascii, decimalIn, decimal, hexadecimal, refusedLine, passesLine, entryLine, eigenvalueLine, joined, matrixLines, eigenvalueLines}
 use Rattle.record.specs.Record.{le16, le32, headerOf, headerChecks, recordChecks}
-use Rattle.record.specs.Answer.{eigenvaluesText, readText, decomposedText, matrixText, checkedText, textOf}
+use Rattle.record.specs.Answer.{eigenvaluesText, readText, decomposedText, decomposed, matrixText, checkedText, textOf}
 
 -- w in k bytes
 bytes : ℕ → ℕ → List ℕ
@@ -26,9 +27,9 @@ recorded length kind order budget tolerance m = bytes 4 length ++ bytes 2 kind +
 
 -- every definition that a case computes with
 unfoldable openedRecord : Unit {0}
-unfolding openedPlain table le64 byteOf floatsOf zeros bytes entries recorded
+unfolding openedDecomposition openedReaders table le64 byteOf floatsOf zeros bytes entries recorded
     ascii decimalIn decimal hexadecimal refusedLine passesLine entryLine eigenvalueLine joined matrixLines eigenvalueLines
-    le16 le32 headerOf headerChecks recordChecks eigenvaluesText readText decomposedText matrixText checkedText textOf
+    le16 le32 headerOf headerChecks recordChecks eigenvaluesText readText decomposedText decomposed matrixText checkedText textOf
 openedRecord = tt
 
 -- ---- the sample: order 2, budget 1, tolerance 0, entries 2 0 0 3

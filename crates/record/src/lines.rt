@@ -79,11 +79,11 @@ fn put_entry(text: &mut [u8], at: usize, letter: u8, row: usize, col: usize, x: 
     put_byte(text, d, b'\n')
 }
 
-// Column by column.
+// Column by column: at most 1024 lines of 25 bytes.
 pub(crate) fn put_matrix(text: &mut [u8], at: usize, letter: u8, n: usize, a: &[f64]) -> usize
-    requires { ⌜ (at + 25 * (n * n) ≤ length (now text)) × (n ≤ 32) × (length (now a) ≡ n * n) ⌝ }
+    requires { ⌜ (at + 25600 ≤ length (now text)) × (n ≤ 32) × (length (now a) ≡ n * n) ⌝ }
     ensures { λ r. ⌜ page r (now (text .exit)) ≡ more (matrixLines letter n (now (a .entry))) (page at (now (text .entry))) ⌝ }
-    ensures { λ r. ⌜ r ≤ at + 25 * (n * n) ⌝ }
+    ensures { λ r. ⌜ r ≤ at + 25600 ⌝ }
 {
     let mut behind = at;
     for k in 0..a.len() {

@@ -4,10 +4,11 @@ ghost use Prim.Native.Nat.{_+_, _*_, _≤_};
 ghost use lib.ListN.{length};
 ghost use Rattle.io.specs.Counts.{Counts};
 ghost use Rattle.pass.specs.Pair.{pair};
-ghost use Rattle.words.specs.Floats.{floatsOf};
+ghost use Rattle.words.specs.Floats.{floatsOf, zeros};
 ghost use Rattle.decomposition.specs.declared.Decomposed.the-variants.{Accepted};
+ghost use Rattle.decomposition.specs.Decomposition.{outcome};
 ghost use Rattle.record.specs.Page.{page, printed, more};
-ghost use Rattle.record.specs.Answer.{eigenvaluesText, readText, decomposedText, matrixText, textOf};
+ghost use Rattle.record.specs.Answer.{eigenvaluesText, readText, decomposedText, decomposed, matrixText, textOf};
 use crate::header::Header;
 use crate::header::check;
 use crate::header::read_header;
@@ -17,6 +18,7 @@ use crate::lines::put_not_read;
 use crate::lines::put_passes;
 use crate::lines::put_refused;
 use decomposition::Decomposed;
+use pass::Setting;
 use refusal::Checked;
 use refusal::Refusal;
 
@@ -39,165 +41,81 @@ fn put_answer(
     }
 }
 
-// The eigenvalues of T; re and im are for their parts.
-fn put_read(
-    text: &mut [u8],
-    at: usize,
-    n: usize,
-    t: &[f64],
-    re: &mut [f64],
-    im: &mut [f64],
-) -> usize
-    requires { ⌜ (at + 1331 ≤ length (now text)) × (n ≤ 32) × (length (now re) ≡ n) × (length (now im) ≡ n) ⌝ }
+// The eigenvalues of T. Their lists begin as zeros, with room for order 32: what is needed is cut off.
+fn put_read(text: &mut [u8], at: usize, n: usize, t: &[f64]) -> usize
+    requires { ⌜ (at + 1331 ≤ length (now text)) × (n ≤ 32) ⌝ }
     ensures { λ r. ⌜ page r (now (text .exit)) ≡ more (readText n (now (t .entry))) (page at (now (text .entry))) ⌝ }
     ensures { λ r. ⌜ r ≤ at + 1331 ⌝ }
 {
-    matrix::fill(re, 0.0);
-    matrix::fill(im, 0.0);
+    let mut re_room = [0.0f64; 32];
+    let mut im_room = [0.0f64; 32];
+    let re = &mut re_room[..n];
+    let im = &mut im_room[..n];
     let checked = eigenvalues::complex_eigenvalues(t, n, re, im);
     put_answer(text, at, n, checked, re, im)
 }
 
 // An accepted decomposition.
-fn put_accepted(
-    text: &mut [u8],
-    n: usize,
-    passes: u64,
-    t: &[f64],
-    q: &[f64],
-    re: &mut [f64],
-    im: &mut [f64],
-) -> usize
-    requires { ⌜ (65536 ≤ length (now text)) × (n ≤ 32) × (length (now t) ≡ n * n) × (length (now q) ≡ n * n) × (length (now re) ≡ n) × (length (now im) ≡ n) ⌝ }
+fn put_accepted(text: &mut [u8], n: usize, passes: u64, t: &[f64], q: &[f64]) -> usize
+    requires { ⌜ (65536 ≤ length (now text)) × (n ≤ 32) × (length (now t) ≡ n * n) × (length (now q) ≡ n * n) ⌝ }
     ensures { λ r. ⌜ page r (now (text .exit)) ≡ more (decomposedText n (Accepted passes) (pair (now (t .entry)) (now (q .entry)))) (page 0 (now (text .entry))) ⌝ }
     ensures { λ r. ⌜ r ≤ 65536 ⌝ }
 {
     let a = put_passes(text, 0, n, passes);
     let b = put_matrix(text, a, b't', n, t);
     let c = put_matrix(text, b, b'q', n, q);
-    put_read(text, c, n, t, re, im)
+    put_read(text, c, n, t)
 }
 
-fn put_decomposed(
-    text: &mut [u8],
-    n: usize,
-    answer: Decomposed,
-    t: &[f64],
-    q: &[f64],
-    re: &mut [f64],
-    im: &mut [f64],
-) -> usize
-    requires { ⌜ (65536 ≤ length (now text)) × (n ≤ 32) × (length (now t) ≡ n * n) × (length (now q) ≡ n * n) × (length (now re) ≡ n) × (length (now im) ≡ n) ⌝ }
+// What the decomposition has answered, and left as T and Q.
+fn put_decomposed(text: &mut [u8], n: usize, answer: Decomposed, t: &[f64], q: &[f64]) -> usize
+    requires { ⌜ (65536 ≤ length (now text)) × (n ≤ 32) × (length (now t) ≡ n * n) × (length (now q) ≡ n * n) ⌝ }
     ensures { λ r. ⌜ page r (now (text .exit)) ≡ more (decomposedText n answer (pair (now (t .entry)) (now (q .entry)))) (page 0 (now (text .entry))) ⌝ }
     ensures { λ r. ⌜ r ≤ 65536 ⌝ }
 {
     match answer {
-        Decomposed::Accepted(passes) => put_accepted(text, n, passes, t, q, re, im),
+        Decomposed::Accepted(passes) => put_accepted(text, n, passes, t, q),
         Decomposed::Declined(r) => put_refused(text, 0, r),
     }
 }
 
-// The matrix is decomposed; t, q and work are for T, Q and the workspace.
-fn put_matrix_text(
-    text: &mut [u8],
-    h: Header,
-    m: &[f64],
-    t: &mut [f64],
-    q: &mut [f64],
-    work: &mut [f64],
-    re: &mut [f64],
-    im: &mut [f64],
-) -> usize
-    requires { ⌜ (65536 ≤ length (now text)) × (h .order ≤ 32) × (length (now t) ≡ h .order * h .order) × (length (now q) ≡ h .order * h .order) × (length (now work) ≡ 2 * h .order)
-        × (length (now re) ≡ h .order) × (length (now im) ≡ h .order) ⌝ }
-    ensures { λ r. ⌜ page r (now (text .exit)) ≡ more (matrixText h (now (m .entry))) (page 0 (now (text .entry))) ⌝ }
-    ensures { λ r. ⌜ r ≤ 65536 ⌝ }
-{
-    let n = h.order;
-    matrix::fill(t, 0.0);
-    matrix::fill(q, 0.0);
-    matrix::fill(work, 0.0);
-    let eps = scalar::of_bits(h.tolerance);
-    let answer = decomposition::try_new(m, n, eps, h.budget, true, t, q, work);
-    put_decomposed(text, n, answer, t, q, re, im)
-}
-
-// The entries become floats first, in m.
-fn put_entries(
-    text: &mut [u8],
-    h: Header,
+// The entries become floats in t, and the matrix is decomposed there.
+fn decompose(
     entries: &[u8],
-    m: &mut [f64],
-    t: &mut [f64],
-    q: &mut [f64],
-    work: &mut [f64],
-    re: &mut [f64],
-    im: &mut [f64],
-) -> usize
-    requires { ⌜ (65536 ≤ length (now text)) × (h .order ≤ 32) × (length (now t) ≡ h .order * h .order) × (length (now q) ≡ h .order * h .order) × (length (now work) ≡ 2 * h .order)
-        × (length (now re) ≡ h .order) × (length (now im) ≡ h .order) × (length (now entries) ≡ 8 * (h .order * h .order)) × (length (now m) ≡ h .order * h .order) ⌝ }
-    ensures { λ r. ⌜ page r (now (text .exit)) ≡ more (matrixText h (floatsOf (now (entries .entry)))) (page 0 (now (text .entry))) ⌝ }
-    ensures { λ r. ⌜ r ≤ 65536 ⌝ }
-{
-    words::decode(entries, m);
-    put_matrix_text(text, h, m, t, q, work, re, im)
-}
-
-// The same where what is lent for floats has room for order 32: what is needed is cut off.
-fn put_in_room(
-    text: &mut [u8],
     h: Header,
-    entries: &[u8],
-    m: &mut [f64],
     t: &mut [f64],
     q: &mut [f64],
     work: &mut [f64],
-    re: &mut [f64],
-    im: &mut [f64],
-) -> usize
-    requires { ⌜ (65536 ≤ length (now text)) × (h .order ≤ 32) × (length (now entries) ≡ 8 * (h .order * h .order)) × (length (now m) ≡ 1024) × (length (now t) ≡ 1024) × (length (now q) ≡ 1024)
-        × (length (now work) ≡ 64) × (length (now re) ≡ 32) × (length (now im) ≡ 32) ⌝ }
-    ensures { λ r. ⌜ page r (now (text .exit)) ≡ more (matrixText h (floatsOf (now (entries .entry)))) (page 0 (now (text .entry))) ⌝ }
-    ensures { λ r. ⌜ r ≤ 65536 ⌝ }
+) -> Decomposed
+    requires { ⌜ (length (now entries) ≡ 8 * (h .order * h .order)) × (length (now t) ≡ h .order * h .order) × (now q ≡ zeros (h .order * h .order))
+        × (now work ≡ zeros (2 * h .order)) ⌝ }
+    ensures { λ r. ⌜ outcome r (pair (now (t .exit)) (now (q .exit))) (now (work .exit)) ≡ decomposed h (floatsOf (now (entries .entry))) ⌝ }
 {
-    let n = h.order;
-    let k = n * n;
-    put_entries(
-        text,
-        h,
-        entries,
-        &mut m[..k],
-        &mut t[..k],
-        &mut q[..k],
-        &mut work[..2 * n],
-        &mut re[..n],
-        &mut im[..n],
-    )
+    words::decode(entries, t);
+    let asked = Setting {
+        order: h.order,
+        wanted: true,
+        tolerance: scalar::of_bits(h.tolerance),
+    };
+    decomposition::try_new_in_place(t, q, asked, h.budget, work)
 }
 
-// The header has passed its checks.
+// The header has passed its checks. T, Q and the workspace too begin as zeros, with room for order 32.
 fn put_passed(text: &mut [u8], h: Header, entries: &[u8]) -> usize
     requires { ⌜ (65536 ≤ length (now text)) × (h .order ≤ 32) × (length (now entries) ≡ 8 * (h .order * h .order)) ⌝ }
     ensures { λ r. ⌜ page r (now (text .exit)) ≡ more (matrixText h (floatsOf (now (entries .entry)))) (page 0 (now (text .entry))) ⌝ }
     ensures { λ r. ⌜ r ≤ 65536 ⌝ }
 {
-    let mut m = [0.0f64; 1024];
-    let mut t = [0.0f64; 1024];
-    let mut q = [0.0f64; 1024];
-    let mut work = [0.0f64; 64];
-    let mut re = [0.0f64; 32];
-    let mut im = [0.0f64; 32];
-    put_in_room(
-        text,
-        h,
-        entries,
-        &mut m,
-        &mut t,
-        &mut q,
-        &mut work,
-        &mut re,
-        &mut im,
-    )
+    let n = h.order;
+    let k = n * n;
+    let mut t_room = [0.0f64; 1024];
+    let mut q_room = [0.0f64; 1024];
+    let mut work_room = [0.0f64; 64];
+    let t = &mut t_room[..k];
+    let q = &mut q_room[..k];
+    let work = &mut work_room[..2 * n];
+    let answer = decompose(entries, h, t, q, work);
+    put_decomposed(text, n, answer, t, q)
 }
 
 // A record with a whole header.

@@ -6,6 +6,7 @@ use lib.Ieee.{binary64, toBits}
 use Rattle.loops.specs.Rounded.{_!_}
 use Rattle.record.specs.Text.{entryLine, matrixLines}
 use Rattle.record.proofs.Listing.{Listing, listing-none, listing-more, Spot, spot}
+use Rattle.record.proofs.Rooms.{square-32}
 use Rattle.record.proofs.lines.put_matrix.Statement.{statement}
 use Rattle.record.proofs.lines.put_matrix.Tie as tie
 
@@ -27,11 +28,11 @@ unfolding matrixLines
 returns c =
     let n = c .before .before .before .before .args .n in
     let e : c .before .loop .k ≡ n * n = omega arith in
-    (rw e at (c .before .loop .inv .1 .done), omega arith)
+    (rw e at (c .before .loop .inv .1 .done), omega (arith, square-32 n (omega arith)))
 
 pub put-matrix-spec : {M : Type 1} → statement M
 put-matrix-spec = tie.close (tie.spec Inv-loop μ-loop
     (λ c. (omega arith, listing-none _ _ _ _))
     (λ c. omega (arith, found c)) (λ c. omega (arith, found c)) (λ c. omega arith) (λ c. omega arith)
-    (λ c κs. omega (arith, found (c .before)))
+    (λ c κs. omega (arith, found (c .before), square-32 (c .before .before .before .before .before .before .args .n) (omega arith)))
     (λ c. omega arith) (λ c. omega arith) again (λ c. omega arith) returns)

@@ -14,15 +14,20 @@ returns c = let x = c .before .before .before .args in (none-printed _ (x .text 
 
 returns-2 : tie.Need-returns-2
 returns-2 c =
-    let x = c .before .before .before .before .before .before .before .before .args in (
-      all-printed _ (x .text .now) (c .before .before .before .before .before .if1 .left) (omega arith) (c .before .before .put-refused .ensures .0 ∙ ap (λ s. more s (page 0 (x .text .now))) (sym (short-text (x .input .now) (c .before .before .before .before .if2 .taken)))),
+    let put = c .before .before in
+    let short = put .before .before in
+    let x = short .before .before .before .before .args in (
+      all-printed _ (x .text .now) (short .before .if1 .left) (omega arith)
+          (put .put-refused .ensures .0 ∙ ap (λ s. more s (page 0 (x .text .now))) (sym (short-text (x .input .now) (short .if2 .taken)))),
       (omega arith, sym (length-take-le _ _ (omega arith))),
     )
 
 returns-3 : tie.Need-returns-3
 returns-3 c =
-    let x = c .before .before .before .before .before .before .before .before .args in
-    (all-printed _ (x .text .now) (c .before .before .before .before .before .if1 .left) (omega arith) (c .before .before .put-record .ensures .0), (omega arith, sym (length-take-le _ _ (omega arith))))
+    let put = c .before .before in
+    let roomy = put .before .before .before in
+    let x = roomy .before .before .before .args in
+    (all-printed _ (x .text .now) (roomy .if1 .left) (omega arith) (put .put-record .ensures .0), (omega arith, sym (length-take-le _ _ (omega arith))))
 
 pub answer-spec : {M : Type 1} → statement M
 answer-spec = tie.close (tie.spec returns (λ c κs. omega arith) (λ c. search needs) returns-2 (λ c κs. omega arith) (λ c. search needs) returns-3)

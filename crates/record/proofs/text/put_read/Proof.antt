@@ -1,21 +1,30 @@
 -- `record::text::put_read` meets its contract. Assumes nothing.
 use mathlib.Core.Path.{ap, _∙_}
 use native.Mathlib.Omega.{arith}
-use Rattle.words.proofs.Between.{filled-zeros}
 use Rattle.record.specs.Page.{page, more}
-use Rattle.record.proofs.Answering.{read-text}
+use Rattle.record.specs.Answer.{eigenvaluesText, readText}
+use Rattle.words.proofs.Between.{fresh-zeros, fresh-length}
 use Rattle.record.proofs.text.put_read.Statement.{statement}
 use Rattle.record.proofs.text.put_read.Tie as tie
 
+-- from where the answer is put: the places behind the reader's call, and at the start
+abbrev read : tie.After-im2 → tie.After-complex-eigenvalues
+read c = let back = c .before .before .before .before in back .before .before .before
+
+abbrev start : tie.After-im2 → tie.Start
+start c = let cut = read c .before .before .before in cut .before .before .before .before
+
+requires : tie.Need-put-answer-requires
+requires c κs = omega (arith, fresh-length (start c .args .n) 32 (start c .pre .1))
+
 returns : tie.Need-returns
+unfolding readText
 returns c =
-    let x = c .before .before .before .before .before .before .before .before .before .before .before .before .before .before .before .before .before .before .before .before .before .before .before .before .before .args in
-    let pre = c .before .before .before .before .before .before .before .before .before .before .before .before .before .before .before .before .before .before .before .before .before .before .before .before .before .pre in (
-      c .before .before .put-answer .ensures .0
-          ∙ ap (λ s. more s (page (x .at) (x .text .now)))
-          (read-text (x .n) (x .t .now) _ _ _ _ _ (c .before .before .before .before .before .before .before .before .before .before .before .before .before .before .before .before .before .before .before .fill .ensures ∙ filled-zeros (x .re .now) _ (pre .2)) (c .before .before .before .before .before .before .before .before .before .before .before .before .before .before .before .fill2 .ensures ∙ filled-zeros (x .im .now) _ (pre .3)) (c .before .before .before .before .before .before .before .before .before .before .complex-eigenvalues .ensures)),
-      omega arith,
-    )
+    let put = c .before .before .before .before in
+    let x = start (put .before) .args in
+    let answered = rw (fresh-zeros (x .n) 32 (start (put .before) .pre .1)) at (read (put .before) .complex-eigenvalues .ensures) in
+    (put .put-answer .ensures .0 ∙ ap (λ r. more (eigenvaluesText (x .n) (r .answer) (r .re) (r .im)) (page (x .at) (x .text .now))) answered, omega arith)
 
 pub put-read-spec : {M : Type 1} → statement M
-put-read-spec = tie.close (tie.spec (λ c κs. omega arith) (λ c κs. omega arith) (λ c κs. omega arith) (λ c κs. omega arith) (λ c. omega arith) (λ c. omega arith) (λ c. omega arith) returns)
+put-read-spec = tie.close (tie.spec (λ c. omega arith) (λ c. fresh-length _ 32 (omega arith)) (λ c. omega arith) (λ c. fresh-length _ 32 (omega arith)) (λ c κs. omega arith) requires
+    (λ c. omega arith) returns)

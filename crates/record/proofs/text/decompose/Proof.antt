@@ -1,0 +1,20 @@
+-- `record::text::decompose` meets its contract. Assumes nothing.
+use native.Mathlib.Omega.{arith}
+use Rattle.words.proofs.Between.{decoded}
+use Rattle.record.specs.Answer.{decomposed}
+use Rattle.record.proofs.text.decompose.Statement.{statement}
+use Rattle.record.proofs.text.decompose.Tie as tie
+
+returns : tie.Need-returns
+unfolding decomposed
+returns c =
+    let run = c .before .before .before .before .before .before in
+    let asked = run .before .before .before .before in
+    let read = asked .before .before .before in
+    let start = read .before .before .before .before .before .before in
+    let x = start .args in
+    let pre = start .pre in
+    rw (asked .of-bits .ensures, decoded (x .entries .now) (x .t .now) _ (pre .0) (pre .1) (read .decode .ensures), pre .2, pre .3) at (run .try-new-in-place .ensures .0)
+
+pub decompose-spec : {M : Type 1} → statement M
+decompose-spec = tie.close (tie.spec (λ c κs. omega arith) (λ c κs. omega arith) (λ c κs. omega arith) (λ c. omega arith) (λ c. omega arith) (λ c. omega arith) returns)
