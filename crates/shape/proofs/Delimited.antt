@@ -54,7 +54,8 @@ shaped-fall n e t s =
   where
     go : (k : ℕ) → e ≤ k → k + 2 < n → Dec (e < k)
         → (e + 1 < n → isZero (decoupled n (e + 1) t ! place n (e + 1) e) ≡ true)
-        → ((k : ℕ) → e + 1 ≤ k → k + 2 < n → (isZero (decoupled n (e + 1) t ! place n (k + 1) k) || isZero (decoupled n (e + 1) t ! place n (k + 2) (k + 1))) ≡ true)
+        → ((k : ℕ) → e + 1 ≤ k → k + 2 < n
+        → (isZero (decoupled n (e + 1) t ! place n (k + 1) k) || isZero (decoupled n (e + 1) t ! place n (k + 2) (k + 1))) ≡ true)
         → (isZero (decoupled n (e + 1) t ! place n (k + 1) k) || isZero (decoupled n (e + 1) t ! place n (k + 2) (k + 1))) ≡ true
     go k h l (yes d) there later = later k (omega arith) l
     go k h l (no d) there later = let q : k ≡ e = omega arith in rw q (either-first _ _ (there (omega arith)))
@@ -123,9 +124,11 @@ cut-off n s t e false h z l m =
       };
     }
 
-pub delimit-sound : (n : ℕ) (eps : Float) (e : ℕ) (t : List Float) → n ≤ 64 → e < n → ShapedFrom n e t → Sound n (delimitOf n eps e t .window) (delimitOf n eps e t .t)
+pub delimit-sound : (n : ℕ) (eps : Float) (e : ℕ) (t : List Float) → n ≤ 64 → e < n → ShapedFrom n e t
+    → Sound n (delimitOf n eps e t .window) (delimitOf n eps e t .t)
 unfolding delimitOf delimitHere
 delimit-sound n eps e t small l s =
     let f = end-fallen n eps e t s in
+    let at = endFrom n eps e t in
     rw (fitting n (length t) (e + 1) (e + 1) small (s .size) (omega arith) (omega arith))
-    (cut-off n (startFrom n eps (endFrom n eps e t .end) (endFrom n eps e t .t)) (endFrom n eps e t .t) (endFrom n eps e t .end) _ refl (f .shaped) (start-before n eps _ _) (omega arith))
+    (cut-off n (startFrom n eps (at .end) (at .t)) (at .t) (at .end) _ refl (f .shaped) (start-before n eps _ _) (omega arith))

@@ -7,9 +7,7 @@ use mathlib.Core.List.{List, []}
 use native.Mathlib.Omega.{arith}
 use lib.ListN.{length}
 use lib.Ieee.{Float}
-use Rattle.loops.specs.Constants.{epsilon}
 use Rattle.loops.specs.Rounded.{_!_}
-use Rattle.loops.specs.Tests.{cond-hold}
 use Rattle.scalar.specs.Class.{isFinite}
 use Rattle.matrix.specs.Vectors.{largest}
 use Rattle.matrix.proofs.Blocks.{each-place}
@@ -23,19 +21,21 @@ use Rattle.refusal.specs.Refusal.{toldOf, refuseAt}
 use Rattle.refusal.specs.Search.{firstNotFinite}
 use Rattle.refusal.specs.Shape.{QuasiTriangular}
 use Rattle.refusal.proofs.Checking.{Only, only-next, only-at}
+use Rattle.refusal.proofs.Passing.{only-asked}
 use Rattle.refusal.proofs.Shape.{nowhere-finite, shape-nowhere}
+use Rattle.pass.specs.declared.setting.Setting.{Setting}
 use Rattle.pass.specs.Pair.{Pair, pair}
 use Rattle.schur.specs.declared.run.Ran.the-variants.{Ended}
 use Rattle.schur.specs.Run.{Left, ranOf}
 use Rattle.schur.proofs.Counting.{ended, reached, ran-tells}
 use Rattle.decomposition.specs.declared.Decomposed.{Decomposed}
 use Rattle.decomposition.specs.declared.Decomposed.the-variants.{Declined}
-use Rattle.decomposition.specs.Checks.{resultChecks}
-use Rattle.decomposition.specs.Decomposition.{verdict, decompositionOf}
-use Rattle.decomposition.proofs.Passing.{all-right, all-lent}
-use Rattle.decomposition.proofs.Touched.{checksOf, as-refused}
-use Rattle.eigenvalues.specs.Plain.{plainBudget, plainOf}
-use Rattle.eigenvalues.proofs.PlainRun.{plain-passed, plain-run}
+use Rattle.decomposition.specs.Checks.{argumentChecks, resultChecks}
+use Rattle.decomposition.specs.Decomposition.{verdict, entryOf}
+use Rattle.decomposition.proofs.Passing.{Sizes, all-right, all-lent}
+use Rattle.decomposition.proofs.Touched.{as-refused}
+use Rattle.plain.specs.Plain.{plainBudget, plainAsked, plainOf}
+use Rattle.plain.proofs.PlainRun.{plain-passed, plain-run}
 use Rattle.shape.specs.Vanished.{vanished}
 use Rattle.shape.proofs.Run.{ended-shape}
 
@@ -45,46 +45,50 @@ found-finite n m small size h =
     largest-finite m (λ p l. each-place (λ p. isFinite (m ! p) ≡ true) n (nowhere-finite n m small size h) p (omega arith))
 
 -- of a T with the shape the checks after the run come to 8 only
-only-eight : (wanted : Bool) (n : ℕ) (p : Pair) → QuasiTriangular n (p .t) → Only (λ r. toldOf r .number ≡ 8) (resultChecks wanted n p)
+only-eight : (asked : Setting) (p : Pair) → QuasiTriangular (asked .order) (p .t) → Only (λ r. toldOf r .number ≡ 8) (resultChecks asked p)
 unfolding resultChecks toldOf refuseAt
-only-eight wanted n p shape =
+only-eight asked p shape =
+    let n = asked .order in
     let eight = only-at (λ r. toldOf r .number ≡ 8) ResultNotFinite in
     only-next _ _ _ (eight (firstNotFinite n (p .t)) (λ _. refl))
-    (only-next _ _ _ (cond-hold (Only _) wanted _ _ (λ _. eight (firstNotFinite n (p .q)) (λ _. refl)) tt) (rw (shape-nowhere n (p .t) shape) tt))
+    (only-next _ _ _ (only-asked _ (asked .wanted) _ (eight (firstNotFinite n (p .q)) (λ _. refl))) (rw (shape-nowhere n (p .t) shape) tt))
 
-not-nine : {q : Place} (wanted : Bool) (n : ℕ) (p : Pair) → QuasiTriangular n (p .t) → resultChecks wanted n p ≡ Refused (ShapeSpoiled q) → ⊥
+not-nine : {q : Place} (asked : Setting) (p : Pair) → QuasiTriangular (asked .order) (p .t) → resultChecks asked p ≡ Refused (ShapeSpoiled q) → ⊥
 unfolding toldOf
-not-nine wanted n p shape h = let k = subst (Only (λ r. toldOf r .number ≡ 8)) h (only-eight wanted n p shape) in omega arith
+not-nine asked p shape h = let k = subst (Only (λ r. toldOf r .number ≡ 8)) h (only-eight asked p shape) in omega arith
 
-module _ (wanted : Bool) (n : ℕ) (tolerance : Float) (budget : ℕ) (m : List Float) (p : Pair) (w : List Float) where
+-- ---- any entry whose checks tell the lengths, as those of the decomposition and of the decomposition in place do
+
+module _ (lengths : Checked) (asked : Setting) (budget : ℕ) (m : List Float) (p : Pair) (w : List Float)
+    (lent : lengths ≡ Passed → Sizes (asked .order) (length m) (length (p .t)) (length w)) where
   abbrev checks : Checked
-  checks = checksOf wanted n tolerance budget m p w
+  checks = argumentChecks lengths asked budget m
 
   abbrev ran : Left
-  ran = ranOf wanted n tolerance budget (pair m (p .q)) w
+  ran = ranOf asked budget (pair m (p .q)) w
 
   abbrev answer : Decomposed
-  answer = decompositionOf wanted n tolerance budget m p w .answer
+  answer = entryOf lengths asked budget m p w .answer
 
   -- in some step of the run an axis was not zero, and its squares vanished
   abbrev axisVanished : Bool
-  axisVanished = vanished wanted n tolerance budget (pair m (p .q)) w
+  axisVanished = vanished asked budget (pair m (p .q)) w
 
   -- the run ended short of its budget, and no axis vanished: T has the shape by the run's own steps
-  pub run-shape : {c : ℕ} → checks ≡ Passed → axisVanished ≡ false → ran .answer ≡ Ended c → QuasiTriangular n (ran .pair .t)
+  pub run-shape : {c : ℕ} → checks ≡ Passed → axisVanished ≡ false → ran .answer ≡ Ended c → QuasiTriangular (asked .order) (ran .pair .t)
   run-shape h none e =
-      let r = all-right _ _ _ _ _ h in
-      let l = all-lent wanted n (length m) (length (p .t)) (length (p .q)) (length w) (r .some) (r .order) (r .lent) in
-      let size = l .alike ∙ l .square in
-      ended-shape wanted n tolerance budget (pair m (p .q)) w (r .some) (r .order) size (l .room) (found-finite n m (r .order) size (r .entries)) none e
+      let r = all-right _ _ _ _ h in
+      let z = lent (r .lent) in
+      let size = z .alike ∙ z .square in
+      ended-shape asked budget (pair m (p .q)) w (r .some) (r .order) size (z .room) (found-finite (asked .order) m (r .order) size (r .entries)) none e
 
   no-nine : {q : Place} → checks ≡ Passed → axisVanished ≡ false → answer ≡ Declined (ShapeSpoiled q) → ⊥
   unfolding verdict
   no-nine h none e =
-      let a = as-refused wanted n tolerance budget m p w h e in
-      elim (ran-tells wanted n tolerance budget (pair m (p .q)) w) [
-        | ended _ f ↦ not-nine wanted n (ran .pair) (run-shape h none f) (sym (ap (verdict wanted n _) f) ∙ a .0)
-        | reached _ _ f ↦ (let other = sym (ap (verdict wanted n (ran .pair)) f) ∙ a .0 in let z : _≡_ {A = ℕ} 0 1 = cc in omega arith)
+      let a = as-refused lengths asked budget m p w h e in
+      elim (ran-tells asked budget (pair m (p .q)) w) [
+        | ended _ f ↦ not-nine asked (ran .pair) (run-shape h none f) (sym (ap (verdict asked _) f) ∙ a .0)
+        | reached _ _ f ↦ (let other = sym (ap (verdict asked (ran .pair)) f) ∙ a .0 in let z : _≡_ {A = ℕ} 0 1 = cc in omega arith)
       ]
 
   -- 9 after a run: so an axis was not zero, and its squares vanished
@@ -95,9 +99,13 @@ module _ (wanted : Bool) (n : ℕ) (tolerance : Float) (budget : ℕ) (m : List 
       go true k = refl
       go false k = absurd (no-nine h k e)
 
--- the plain entry's 9 is one of a run, too
-pub plain-nine : {q : Place} (n : ℕ) (m values w : List Float) → plainOf n m values w .answer ≡ Refused (ShapeSpoiled q) → vanished false n epsilon plainBudget (pair m []) w ≡ true
+-- ---- the plain entry
+
+-- its 9 is one of a run, too; in place the answer is the same (`copied-in-place` in plain)
+pub plain-nine : {q : Place} (n : ℕ) (m values w : List Float) → plainOf n m values w .answer ≡ Refused (ShapeSpoiled q)
+    → vanished (plainAsked n) plainBudget (pair m []) w ≡ true
 unfolding toldOf
 plain-nine n m values w e =
+    let asked = plainAsked n in
     let a = plain-run n m values w (λ f. f .1 refl) e in
-    nine-vanished false n epsilon plainBudget m (pair m []) w (plain-passed n m values w (a .0)) (a .1)
+    nine-vanished _ asked plainBudget m (pair m []) w (all-lent asked _ _ 0 _) (plain-passed n m values w (a .0)) (a .1)

@@ -1,5 +1,5 @@
--- A run in which no axis vanished: every turn keeps the shape from the window's end on, so where its window closes T has the shape, and a run that ends short of its budget
--- has closed its window. Assumes nothing.
+-- A run in which no axis vanished: every turn keeps the shape from the window's end on, so where its window closes T has the shape, and a run that ends
+-- short of its budget has closed its window. Assumes nothing.
 use Prim.Native.Nat.{ℕ, _+_, _-_, _*_, _<_, _≤_}
 use mathlib.Core.Bool.{Bool, true, false}
 use mathlib.Core.Path.{_≡_, refl, ap, _∙_}
@@ -22,9 +22,10 @@ use Rattle.hessenberg.specs.Reduced.{workFits, reduced}
 use Rattle.hessenberg.specs.Unpacked.{unpackedH}
 use Rattle.hessenberg.proofs.Frames.{reduced-length, reduced-work, unpackedH-length, unpackedH-zero}
 use Rattle.window.specs.Window.{window}
+use Rattle.pass.specs.declared.setting.Setting.{Setting}
 use Rattle.pass.specs.Pair.{Pair, pair}
 use Rattle.schur.specs.declared.run.Ran.the-variants.{Ended}
-use Rattle.schur.specs.Run.{Running, closed, after, turnOf, runFrom, scaledDown, reducedPair, opened, Left, answered, ranOf}
+use Rattle.schur.specs.Run.{Running, closed, delimiting, turnOf, runFrom, scaledDown, reducedPair, opened, Left, answered, ranOf}
 use Rattle.schur.proofs.Counting.{opened-none, run-counted}
 use Rattle.schur.proofs.Lengths.{scaledDown-length}
 use Rattle.refusal.specs.Shape.{QuasiTriangular}
@@ -36,41 +37,47 @@ use Rattle.shape.proofs.Passed.{more-sound}
 
 -- ---- one turn
 
-turn-sound : (wanted : Bool) (n : ℕ) (eps : Float) (r : Running) → n ≤ 64 → closed r ≡ false → turnVanished wanted n r ≡ false → SoundAt n r → SoundAt n (turnOf wanted n eps r)
+turn-sound : (asked : Setting) (r : Running) → asked .order ≤ 64 → closed r ≡ false → turnVanished asked r ≡ false → SoundAt (asked .order) r
+    → SoundAt (asked .order) (turnOf asked r)
 unfolding closed turnOf turnVanished
-turn-sound wanted n eps r small still none z =
+turn-sound asked r small still none z =
     let w = r .state .window in
     let o = z .whenOpen (eqb-false (w .start) (w .end) still) in
-    cond-both (SoundAt n) (leb (w .end) (w .start + 1)) _ _
-    (λ e. two-sound wanted n eps (r .state) (r .pair) small o (leb-true (w .end) (w .start + 1) e))
-    (λ e. let more = leb-false (w .end) (w .start + 1) e in more-sound wanted n eps (r .state) (r .pair) small o (omega arith) (rw e at none))
+    cond-both (SoundAt (asked .order)) (leb (w .end) (w .start + 1)) _ _
+    (λ e. two-sound asked (r .state) (r .pair) small o (leb-true (w .end) (w .start + 1) e))
+    (λ e. let more = leb-false (w .end) (w .start + 1) e in more-sound asked (r .state) (r .pair) small o (omega arith) (rw e at none))
 
 -- ---- the first state
 
 -- H is +0 two or more places below its diagonal, and has no row below the last
-opened-shaped : (n : ℕ) (t w : List Float) → n ≤ 64 → 1 ≤ n → length t ≡ n * n → length w ≡ 2 * n → ShapedFrom n (n - 1) (unpackedH n (reduced n t w .work) (reduced n t w .matrix))
+opened-shaped : (n : ℕ) (t w : List Float) → n ≤ 64 → 1 ≤ n → length t ≡ n * n → length w ≡ 2 * n
+    → ShapedFrom n (n - 1) (unpackedH n (reduced n t w .work) (reduced n t w .matrix))
 unfolding workFits
 opened-shaped n t w small some size room =
     let kept : length (reduced n t w .matrix) ≡ n * n = reduced-length n t w ∙ size in
     record {
       size = unpackedH-length n _ _ ∙ kept;
-      far = λ i j h l. ap isZero (unpackedH-zero n (reduced n t w .work) (reduced n t w .matrix) i j small kept (eq-eqb _ _ (reduced-work n t w ∙ room)) h l) ∙ zero-is;
+      far = λ i j h l.
+          ap isZero (unpackedH-zero n (reduced n t w .work) (reduced n t w .matrix) i j small kept (eq-eqb _ _ (reduced-work n t w ∙ room)) h l) ∙ zero-is;
       end = λ l. absurd (omega arith);
       near = λ k h l. absurd (omega arith);
     }
 
-opened-sound : (wanted : Bool) (n : ℕ) (eps : Float) (w : List Float) (p : Pair) → n ≤ 64 → 1 ≤ n → length (p .t) ≡ n * n → length w ≡ 2 * n → SoundAt n (opened wanted n eps w p)
-unfolding opened after reducedPair
-opened-sound wanted n eps w p small some size room =
-    delimit-sound n eps (n - 1) _ small (omega arith) (opened-shaped n (scaledDown (p .t)) w small some (scaledDown-length (p .t) ∙ size) room)
+opened-sound : (asked : Setting) (w : List Float) (p : Pair) → asked .order ≤ 64 → 1 ≤ asked .order → length (p .t) ≡ asked .order * asked .order
+    → length w ≡ 2 * asked .order → SoundAt (asked .order) (opened asked w p)
+unfolding opened delimiting reducedPair
+opened-sound asked w p small some size room =
+    let n = asked .order in
+    delimit-sound n (asked .tolerance) (n - 1) _ small (omega arith) (opened-shaped n (scaledDown (p .t)) w small some (scaledDown-length (p .t) ∙ size) room)
 
 -- ---- all turns
 
-run-sound : (wanted : Bool) (n : ℕ) (eps : Float) (budget : ℕ) (r : Running) → n ≤ 64 → runVanished wanted n eps budget r ≡ false → SoundAt n r → SoundAt n (runFrom wanted n eps budget r)
+run-sound : (asked : Setting) (budget : ℕ) (r : Running) → asked .order ≤ 64 → runVanished asked budget r ≡ false → SoundAt (asked .order) r
+    → SoundAt (asked .order) (runFrom asked budget r)
 unfolding runFrom runVanished
-run-sound wanted n eps budget r small none z =
-    until-walk (λ _. SoundAt n) closed (turnOf wanted n eps) budget r (λ m l d h. h)
-    (λ m l d h. turn-sound wanted n eps _ small d (some-none (λ m. turnVanished wanted n (runFrom wanted n eps m r)) 0 budget m none (omega arith) l) h) z
+run-sound asked budget r small none z =
+    until-walk (λ _. SoundAt (asked .order)) closed (turnOf asked) budget r (λ m l d h. h)
+    (λ m l d h. turn-sound asked _ small d (some-none (λ m. turnVanished asked (runFrom asked m r)) 0 budget m none (omega arith) l) h) z
 
 -- ---- what is left of T
 
@@ -106,19 +113,20 @@ answered-shape {c} n budget amax r finite z counted =
     go false h short = absurd (eqb-false (r .state .passes) budget short (counted h))
 
 -- A run on a matrix of finite entries that ended short of its budget, and in which no axis was nonzero with squares that vanished, has the shape.
-pub ended-shape : {c : ℕ} (wanted : Bool) (n : ℕ) (eps : Float) (budget : ℕ) (p : Pair) (w : List Float) → 1 ≤ n → n ≤ 64 → length (p .t) ≡ n * n → length w ≡ 2 * n
-    → isFinite (largest (p .t)) ≡ true → vanished wanted n eps budget p w ≡ false → ranOf wanted n eps budget p w .answer ≡ Ended c
-    → QuasiTriangular n (ranOf wanted n eps budget p w .pair .t)
+pub ended-shape : {c : ℕ} (asked : Setting) (budget : ℕ) (p : Pair) (w : List Float) → 1 ≤ asked .order → asked .order ≤ 64
+    → length (p .t) ≡ asked .order * asked .order → length w ≡ 2 * asked .order → isFinite (largest (p .t)) ≡ true
+    → vanished asked budget p w ≡ false → ranOf asked budget p w .answer ≡ Ended c → QuasiTriangular (asked .order) (ranOf asked budget p w .pair .t)
 unfolding ranOf vanished
-ended-shape {c} wanted n eps budget p w some small size room finite none = go (decLt n 3)
+ended-shape {c} asked budget p w some small size room finite none = go (decLt (asked .order) 3)
   where
     first : Running
-    first = opened wanted n eps w p
+    first = opened asked w p
 
-    go : Dec (n < 3) → ranOf wanted n eps budget p w .answer ≡ Ended c → QuasiTriangular n (ranOf wanted n eps budget p w .pair .t)
-    go (yes l) = λ _. small-shape n _ (omega arith)
+    go : Dec (asked .order < 3) → ranOf asked budget p w .answer ≡ Ended c → QuasiTriangular (asked .order) (ranOf asked budget p w .pair .t)
+    go (yes l) = λ _. small-shape (asked .order) _ (omega arith)
     go (no l) =
+        let n = asked .order in
         rw (ne-eqb n 1 (λ q. omega arith), ne-eqb n 2 (λ q. omega arith))
-        (answered-shape n budget (largest (p .t)) (runFrom wanted n eps budget first) finite
-        (run-sound wanted n eps budget first small (rw (le-leb 3 n (omega arith)) at none) (opened-sound wanted n eps w p small some size room))
-        (run-counted wanted n eps budget first (opened-none wanted n eps w p)))
+        (answered-shape n budget (largest (p .t)) (runFrom asked budget first) finite
+        (run-sound asked budget first small (rw (le-leb 3 n (omega arith)) at none) (opened-sound asked w p small some size room))
+        (run-counted asked budget first (opened-none asked w p)))

@@ -1,6 +1,6 @@
 -- A window of two: splitting it changes one entry below the diagonal, and so the end may fall by two. Assumes nothing.
 use Prim.Native.Nat.{ℕ, _+_, _-_, _*_, _<_, _≤_}
-use mathlib.Core.Bool.{Bool, true, _||_}
+use mathlib.Core.Bool.{true, _||_}
 use mathlib.Core.Path.{_≡_, refl, ap, _∙_, subst}
 use mathlib.Core.List.{List}
 use native.Mathlib.Decide.{decLt}
@@ -14,11 +14,12 @@ use Rattle.loops.specs.Rounded.{_!_}
 use Rattle.loops.specs.Tests.{cond-both}
 use Rattle.scalar.specs.Class.{isZero}
 use Rattle.window.specs.Window.{window}
+use Rattle.pass.specs.declared.setting.Setting.{Setting}
 use Rattle.pass.specs.Pair.{Pair}
 use Rattle.pass.specs.Block.{splitAt}
 use Rattle.pass.proofs.BlockFrames.{splitAt-length, splitAt-frame}
 use Rattle.schur.specs.declared.run.State.{State}
-use Rattle.schur.specs.Run.{Running, after, turnTwo}
+use Rattle.schur.specs.Run.{Running, delimiting, after, turnTwo}
 use Rattle.shape.proofs.Zeros.{either-first, either-second, either-keeps}
 use Rattle.shape.proofs.Delimited.{ShapedFrom, Open, Sound, delimit-sound}
 
@@ -45,14 +46,16 @@ module _ (n s : ℕ) (t u : List Float) (z : ShapedFrom n (s + 1) t) (start : 0 
       go : Dec (k < s) → Dec (s < k) → (isZero (u ! place n (k + 1) k) || isZero (u ! place n (k + 2) (k + 1))) ≡ true
       go (yes a) b = either-first (isZero (u ! place n (k + 1) k)) (isZero (u ! place n (k + 2) (k + 1))) (cutting k (omega arith) l)
       go (no a) (yes b) =
-          either-keeps (isZero (t ! place n (k + 1) k)) (isZero (t ! place n (k + 2) (k + 1))) (isZero (u ! place n (k + 1) k)) (isZero (u ! place n (k + 2) (k + 1)))
+          either-keeps (isZero (t ! place n (k + 1) k)) (isZero (t ! place n (k + 2) (k + 1)))
+          (isZero (u ! place n (k + 1) k)) (isZero (u ! place n (k + 2) (k + 1)))
           (zero-still (k + 1) k (omega arith) (omega arith) (λ x y. omega arith))
           (zero-still (k + 2) (k + 1) l (omega arith) (λ x y. omega arith)) (z .near k (omega arith) l)
       go (no a) (no b) =
           let q : k ≡ s = omega arith in
           let e : s + 1 + 1 ≡ s + 2 = omega arith in
           let at : isZero (t ! place n (s + 2) (s + 1)) ≡ true = rw e at (z .end (omega arith)) in
-          rw q (either-second (isZero (u ! place n (s + 1) s)) (isZero (u ! place n (s + 2) (s + 1))) (zero-still (s + 2) (s + 1) (omega arith) (omega arith) (λ x y. omega arith) at))
+          rw q (either-second (isZero (u ! place n (s + 1) s)) (isZero (u ! place n (s + 2) (s + 1)))
+          (zero-still (s + 2) (s + 1) (omega arith) (omega arith) (λ x y. omega arith) at))
 
   -- above row 0: the end falls to the row above s
   split-shaped : 0 < s → length u ≡ n * n → ShapedFrom n (s - 1) u
@@ -83,18 +86,21 @@ ends-sound n s t u z start same size l =
       whenOpen = λ d. absurd (d refl);
     }
 
-pub two-sound : (wanted : Bool) (n : ℕ) (eps : Float) (s : State) (p : Pair) → n ≤ 64 → Open n (s .window) (p .t) → s .window .end ≤ s .window .start + 1
-    → SoundAt n (turnTwo wanted n eps s p)
-unfolding turnTwo after
-two-sound wanted n eps s p small o l =
+pub two-sound : (asked : Setting) (s : State) (p : Pair) → asked .order ≤ 64 → Open (asked .order) (s .window) (p .t)
+    → s .window .end ≤ s .window .start + 1 → SoundAt (asked .order) (turnTwo asked s p)
+unfolding turnTwo after delimiting
+two-sound asked s p small o l =
+    let n = asked .order in
     let k = s .window .start in
     let two : s .window .end ≡ k + 1 = omega arith in
     let z : ShapedFrom n (k + 1) (p .t) = subst (λ e. ShapedFrom n e (p .t)) two (o .shaped) in
-    let same = splitAt-frame wanted n k p in
-    let size : length (splitAt wanted n k p .t) ≡ n * n = splitAt-length wanted n k p ∙ z .size in
+    let parted = splitAt asked k p .t in
+    let same = splitAt-frame asked k p in
+    let size : length parted ≡ n * n = splitAt-length asked k p ∙ z .size in
     cond-both (SoundAt n) (leb (s .window .end) 2) _ _
-    (λ e. ends-sound n k (p .t) (splitAt wanted n k p .t) z (o .start) same size (let small-end = leb-true (s .window .end) 2 e in omega arith))
+    (λ e. ends-sound n k (p .t) parted z (o .start) same size (let small-end = leb-true (s .window .end) 2 e in omega arith))
     (λ e.
     let far = leb-false (s .window .end) 2 e in
     let q : k - 1 ≡ s .window .end - 2 = omega arith in
-    delimit-sound n eps (s .window .end - 2) _ small (omega arith) (subst (λ e. ShapedFrom n e (splitAt wanted n k p .t)) q (split-shaped n k (p .t) _ z (o .start) same (omega arith) size)))
+    delimit-sound n (asked .tolerance) (s .window .end - 2) parted small (omega arith)
+    (subst (λ e. ShapedFrom n e parted) q (split-shaped n k (p .t) parted z (o .start) same (omega arith) size)))

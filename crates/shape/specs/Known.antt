@@ -8,6 +8,7 @@ use Rattle.loops.specs.Constants.{one}
 use Rattle.loops.specs.Times.{times}
 use Rattle.loops.specs.First.{firstFrom}
 use Rattle.matrix.specs.Known.{read}
+use Rattle.pass.specs.Setting.{setting}
 use Rattle.pass.specs.Pair.{pair}
 use Rattle.schur.specs.Known.{openedSchur, Case}
 use Rattle.shape.specs.Vanished.{isTooSmall, tooSmall, passTo, axisColumn, passVanished, turnVanished, runVanished, vanished}
@@ -17,11 +18,13 @@ unfoldable pub openedVanished : Unit {0}
 unfolding openedSchur firstFrom isTooSmall tooSmall passTo axisColumn passVanished turnVanished runVanished vanished
 openedVanished = tt
 
-case : ℕ → ℕ → ℕ → List ℕ → Case
+case : (n eps budget : ℕ) → (t : List ℕ) → Case
 case n eps budget t = record { order = n; eps = eps; budget = budget; matrix = t }
 
 of : Case → Bool
-of c = vanished false (c .order) (ofBits binary64 (c .eps)) (c .budget) (pair (read (c .matrix)) []) (times (λ _ w. one ∷ w) (2 * c .order) [])
+of c =
+    let asked = setting (c .order) false (ofBits binary64 (c .eps)) in
+    vanished asked (c .budget) (pair (read (c .matrix)) []) (times (λ _ w. one ∷ w) (2 * c .order) [])
 
 -- With the tolerance 0: 2 ^ -521 stands below the diagonal, and in the bulge of the first pass the squares vanish, but not the numbers: 9 at 2 0.
 -- A column of the reduction that is too small, and no pass: what it leaves is overwritten. Six passes of order 3; J, which has none.

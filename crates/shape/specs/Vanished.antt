@@ -12,6 +12,7 @@ use Rattle.matrix.specs.Sum.{bare}
 use Rattle.matrix.specs.Vectors.{two, three}
 use Rattle.householder.specs.Axis.{Way, Reflected, AllZero, TooSmall, wayOf}
 use Rattle.window.specs.declared.Window.{Window}
+use Rattle.pass.specs.declared.setting.Setting.{Setting}
 use Rattle.pass.specs.Pair.{Pair}
 use Rattle.pass.specs.Pass.{firstColumn, bulgeEnd, columnAt, chased}
 use Rattle.schur.specs.Run.{Running, runFrom, opened}
@@ -30,34 +31,35 @@ tooSmall c = isTooSmall (wayOf bare c)
 -- ---- a pass over the window w, of three rows or more
 
 -- T and Q before its step at k
-unfoldable pub passTo : (wanted : Bool) → (n : ℕ) → Window → Pair → (k : ℕ) → Pair
-passTo wanted n w p k =
-    let s = w .start in
-    let e = w .end in
-    range (chased wanted n (firstColumn n s e (p .t)) s e) s k p
+unfoldable pub passTo : Setting → Window → Pair → (k : ℕ) → Pair
+passTo asked w p k =
+    let first = firstColumn (asked .order) (w .start) (w .end) (p .t) in
+    range (chased asked w first) (w .start) k p
 
 -- the column whose axis that step uses: three numbers, and two at the last step
-unfoldable pub axisColumn : (wanted : Bool) → (n : ℕ) → Window → Pair → (k : ℕ) → List Float
-axisColumn wanted n w p k =
-    let s = w .start in
-    let e = w .end in
-    let t = passTo wanted n w p k .t in
-    cond (eqb k (e - 1)) (two (bulgeEnd n k t)) (three (columnAt (firstColumn n s e (p .t)) n s k t))
+unfoldable pub axisColumn : Setting → Window → Pair → (k : ℕ) → List Float
+axisColumn asked w p k =
+    let n = asked .order in
+    let first = firstColumn n (w .start) (w .end) (p .t) in
+    let t = passTo asked w p k .t in
+    cond (eqb k (w .end - 1)) (two (bulgeEnd n k t)) (three (columnAt n (w .start) k first t))
 
 -- in some step, from the window's start to the row above its end
-unfoldable pub passVanished : (wanted : Bool) → (n : ℕ) → Window → Pair → Bool
-passVanished wanted n w p = some (λ k. tooSmall (axisColumn wanted n w p k)) (w .start) (w .end)
+unfoldable pub passVanished : Setting → Window → Pair → Bool
+passVanished asked w p = some (λ k. tooSmall (axisColumn asked w p k)) (w .start) (w .end)
 
 -- ---- a run
 
 -- in the turn from a state: a window of two or less has no pass
-unfoldable pub turnVanished : (wanted : Bool) → (n : ℕ) → Running → Bool
-turnVanished wanted n r = not (leb (r .state .window .end) (r .state .window .start + 1)) && passVanished wanted n (r .state .window) (r .pair)
+unfoldable pub turnVanished : Setting → Running → Bool
+turnVanished asked r =
+    let w = r .state .window in
+    not (leb (w .end) (w .start + 1)) && passVanished asked w (r .pair)
 
 -- in some turn from r on, at most `budget` of them
-unfoldable pub runVanished : (wanted : Bool) → (n : ℕ) → (eps : Float) → (budget : ℕ) → Running → Bool
-runVanished wanted n eps budget r = some (λ m. turnVanished wanted n (runFrom wanted n eps m r)) 0 budget
+unfoldable pub runVanished : Setting → (budget : ℕ) → Running → Bool
+runVanished asked budget r = some (λ m. turnVanished asked (runFrom asked m r)) 0 budget
 
 -- orders 1 and 2 have no pass
-unfoldable pub vanished : (wanted : Bool) → (n : ℕ) → (eps : Float) → (budget : ℕ) → Pair → (w : List Float) → Bool
-vanished wanted n eps budget p w = leb 3 n && runVanished wanted n eps budget (opened wanted n eps w p)
+unfoldable pub vanished : Setting → (budget : ℕ) → Pair → (w : List Float) → Bool
+vanished asked budget p w = leb 3 (asked .order) && runVanished asked budget (opened asked w p)
