@@ -5,6 +5,7 @@ use mathlib.Core.List.{List, [], _∷_}
 use lib.Ieee.{ofBits, binary64}
 use Rattle.loops.specs.Times.{times}
 use Rattle.matrix.specs.Known.{read, shown}
+use Rattle.pass.specs.Setting.{setting}
 use Rattle.pass.specs.Pair.{pair}
 use Rattle.refusal.specs.declared.refusal.Refusal.{Refusal}
 use Rattle.refusal.specs.declared.refusal.Checked.{Checked}
@@ -19,10 +20,10 @@ use Rattle.eigenvalues.specs.Readers.{realRead, complexRead}
 
 pub data Call : Type 0 where
   -- the decomposition with Q: order, tolerance, budget, matrix
-  Decompose : ℕ → ℕ → ℕ → List ℕ → Call
+  Decompose : (n tolerance budget : ℕ) → (m : List ℕ) → Call
   -- the real reader and the complex reader: order, T
-  Real : ℕ → List ℕ → Call
-  Complex : ℕ → List ℕ → Call
+  Real : (n : ℕ) → (t : List ℕ) → Call
+  Complex : (n : ℕ) → (t : List ℕ) → Call
 
 -- ---- what comes of it
 
@@ -32,7 +33,7 @@ pub data Says : Type 0 where
   -- T is read
   Read : Says
   -- document 01's number, row, column
-  Refused : ℕ → ℕ → ℕ → Says
+  Refused : (number row col : ℕ) → Says
 
 pub record Answer : Type 0 where
   pub says : Says
@@ -66,8 +67,9 @@ reads (checked.Refused r) = refused r
 
 unfoldable pub answerOf : Call → Answer
 answerOf (Decompose n tolerance budget m) =
+    let asked = setting n true (ofBits binary64 tolerance) in
     let square = read (lent (n * n)) in
-    let o = decompositionOf true n (ofBits binary64 tolerance) budget (read m) (pair square square) (read (lent (2 * n))) in
+    let o = decompositionOf asked budget (read m) (pair square square) (read (lent (2 * n))) in
     answer (decomposes (o .answer)) (shown (o .pair .t) ∷ shown (o .pair .q) ∷ shown (o .work) ∷ [])
 answerOf (Real n t) = let r = realRead n (read t) (read (lent n)) in answer (reads (r .answer)) (shown (r .values) ∷ [])
 answerOf (Complex n t) =

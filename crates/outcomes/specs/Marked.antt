@@ -5,7 +5,8 @@ use mathlib.Core.Path.{_≡_, refl, sym, ap, _∙_}
 use Prim.Native.Nat.{ℕ, _*_}
 use mathlib.Core.List.{List, [], _∷_, _++_, map, map-append}
 use lib.ListN.{length}
-use Rattle.eigenvalues.specs.Known.{openedPlain}
+use Rattle.decomposition.specs.Known.{openedDecomposition}
+use Rattle.eigenvalues.specs.Known.{openedReaders}
 use Rattle.outcomes.specs.Call.{Call, Says, Answer, answer, copies, lent, refused, decomposes, reads, answerOf}
 use Rattle.outcomes.specs.Call.{Decompose, Real, Complex, Passes, Read, Refused}
 
@@ -109,8 +110,9 @@ _then_ : {x y : List Line} → Holds x → Holds y → Holds (x ++ y)
 _then_ {x} {y} h k = record { all = map-append _ x y ∙ ap (λ l. l ++ map (λ x. answerOf (x .call)) y) (h .all) ∙ ap (λ l. map (λ x. x .answer) x ++ l) (k .all) ∙ sym (map-append _ x y) }
 
 unfoldable openedMarked : Unit {0}
-unfolding openedPlain copies lent refused decomposes reads answerOf
-    line one minusOne two four five minusZero nan huge usual zeros spaced diagonal identity J twice thenTwo thenJ below left untouched spoiled
+unfolding openedDecomposition openedReaders copies lent refused decomposes reads answerOf
+    line one minusOne two four five minusZero nan huge usual zeros spaced diagonal identity
+    J twice thenTwo thenJ below left untouched spoiled
 openedMarked = tt
 
 -- ---- the items
