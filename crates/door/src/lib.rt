@@ -3,17 +3,20 @@
 // input; `specs/Answer.antt` says how a refusal is told in one number.
 mod answer;
 mod checks;
-mod decompose;
-mod plain;
-mod readers;
+mod lists;
+mod matrices;
 
 ghost use mathlib.Core.Path.{_≡_};
 ghost use mathlib.Core.Bool.{not};
 ghost use lib.Dec.{T, eqb};
 ghost use lib.Ieee.{binary64, nanBits};
 ghost use Rattle.scalar.specs.Root.{rootBits};
-ghost use Rattle.door.specs.Bytes.{matrices, decomposeBytes, listed, realBytes, complexListed, complexBytes, plainBytes};
+ghost use Rattle.door.specs.Matrices.{request, matrices, decomposeBytes};
+ghost use Rattle.door.specs.Lists.{listed, realBytes, complexListed, complexBytes, plainBytes};
 use answer::refusal_number;
+use lists::ListCall;
+use lists::ListEntry;
+use matrices::Request;
 use refusal::Checked;
 
 // The square root, from pattern to pattern. Every NaN pattern gives 7FF8000000000000, and so does
@@ -37,11 +40,18 @@ pub extern "C" fn manulsek_decompose(
     t: &mut [u8],
     q: &mut [u8],
 ) -> u64
-    ensures { λ r. ⌜ matrices r (now (t .exit)) (now (q .exit)) ≡ decomposeBytes n (now (m .entry)) tolerance budget (not (eqb wanted 0)) (now (t .entry)) (now (q .entry)) ⌝ }
+    ensures { λ r. ⌜ matrices r (now (t .exit)) (now (q .exit))
+        ≡ decomposeBytes (request n (not (eqb wanted 0)) tolerance budget) (now (m .entry)) (now (t .entry)) (now (q .entry)) ⌝ }
 {
-    match decompose::check_arguments(m, n, tolerance, budget, wanted != 0, t.len(), q.len()) {
+    let request = Request {
+        order: n,
+        wanted: wanted != 0,
+        tolerance,
+        budget,
+    };
+    match matrices::check_arguments(m, request, t.len(), q.len()) {
         Checked::Refused(r) => refusal_number(r),
-        Checked::Passed => decompose::run_pattern(m, n, tolerance, budget, wanted != 0, t, q),
+        Checked::Passed => matrices::run(request, m, t, q),
     }
 }
 
@@ -50,10 +60,12 @@ pub extern "C" fn manulsek_decompose(
 pub extern "C" fn manulsek_eigenvalues(n: usize, t: &[u8], values: &mut [u8]) -> u64
     ensures { λ r. ⌜ listed r (now (values .exit)) ≡ realBytes n (now (t .entry)) (now (values .entry)) ⌝ }
 {
-    match checks::check_list(t, n, checks::holds(n, values.len())) {
-        Checked::Refused(r) => refusal_number(r),
-        Checked::Passed => readers::real(t, n, values),
-    }
+    let mut none = [0u8; 0];
+    let call = ListCall {
+        entry: ListEntry::Real,
+        order: n,
+    };
+    lists::call(call, t, values, &mut none)
 }
 
 // The eigenvalues of a T, by their real and imaginary parts: 0, or a refusal.
@@ -66,10 +78,11 @@ pub extern "C" fn manulsek_complex_eigenvalues(
 ) -> u64
     ensures { λ r. ⌜ complexListed r (now (re .exit)) (now (im .exit)) ≡ complexBytes n (now (t .entry)) (now (re .entry)) (now (im .entry)) ⌝ }
 {
-    match checks::check_list(t, n, readers::both_hold(n, re.len(), im.len())) {
-        Checked::Refused(r) => refusal_number(r),
-        Checked::Passed => readers::complex(t, n, re, im),
-    }
+    let call = ListCall {
+        entry: ListEntry::Complex,
+        order: n,
+    };
+    lists::call(call, t, re, im)
 }
 
 // The eigenvalues of a matrix, if all are real, with the tolerance 2^-52 and the budget 10,000: 0, or a
@@ -78,8 +91,10 @@ pub extern "C" fn manulsek_complex_eigenvalues(
 pub extern "C" fn manulsek_plain_eigenvalues(n: usize, m: &[u8], values: &mut [u8]) -> u64
     ensures { λ r. ⌜ listed r (now (values .exit)) ≡ plainBytes n (now (m .entry)) (now (values .entry)) ⌝ }
 {
-    match checks::check_list(m, n, checks::holds(n, values.len())) {
-        Checked::Refused(r) => refusal_number(r),
-        Checked::Passed => plain::run(m, n, values),
-    }
+    let mut none = [0u8; 0];
+    let call = ListCall {
+        entry: ListEntry::Plain,
+        order: n,
+    };
+    lists::call(call, m, values, &mut none)
 }

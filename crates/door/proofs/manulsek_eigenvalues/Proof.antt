@@ -1,15 +1,13 @@
 -- `door::manulsek_eigenvalues` meets its contract. Assumes nothing.
 use native.Mathlib.Omega.{arith}
-use Rattle.door.proofs.Answering.{real-kept}
+use mathlib.Core.Path.{ap}
+use Rattle.door.specs.Lists.{listed, listsBytes}
 use Rattle.door.proofs.manulsek_eigenvalues.Statement.{statement}
 use Rattle.door.proofs.manulsek_eigenvalues.Tie as tie
 
-real-requires : tie.Need-real-requires
-real-requires c κs = rw (← c .before .before .before .before .holds .ensures, ← c .before .before .before .check-list .ensures) (c .before .enum-told .given .1)
-
 returns : tie.Need-returns
-returns c = real-kept _ _ _ _ (rw (← c .before .before .before .before .before .holds .ensures, ← c .before .before .before .before .check-list .ensures) (c .before .before .r .given .1)) (c .refusal-number .ensures)
+unfolding listsBytes
+returns c = ap (λ x. listed (x .answer) (x .re)) (c .before .before .before .call .ensures)
 
 pub manulsek-eigenvalues-spec : {M : Type 1} → statement M
-manulsek-eigenvalues-spec = tie.close (tie.spec (λ c κs. omega arith) (λ c κs. omega arith) (λ c. omega arith) (λ c κs. omega arith) (λ c. omega arith) real-requires returns
-    (λ c. omega arith) (λ c. c .before .before .real .ensures))
+manulsek-eigenvalues-spec = tie.close (tie.spec (λ c. omega arith) (λ c κs. omega arith) (λ c. omega arith) returns)

@@ -1,0 +1,31 @@
+-- `door::lists::evaluate` meets its contract. Assumes nothing.
+use native.Mathlib.Omega.{arith}
+use mathlib.Core.Path.{ap}
+use Rattle.door.specs.Inner.{evaluated, evaluatedBy}
+use Rattle.door.proofs.lists.evaluate.Statement.{statement}
+use Rattle.door.proofs.lists.evaluate.Tie as tie
+
+returns : tie.Need-returns
+unfolding evaluatedBy
+returns c =
+    let came = c .before .before in
+    let told = came .before .before .before in
+    let x = told .before .before .before .before .before .args in
+    rw (told .enum-told .given .1) (ap (λ r. evaluated (r .answer) (r .values) (x .y .now)) (came .eigenvalues .ensures .0))
+
+returns-2 : tie.Need-returns-2
+unfolding evaluatedBy
+returns-2 c =
+    let came = c .before .before .before .before in
+    rw (came .before .before .before .before .enum-told2 .given .1) (ap (λ r. evaluated (r .answer) (r .re) (r .im)) (came .complex-eigenvalues .ensures))
+
+returns-3 : tie.Need-returns-3
+unfolding evaluatedBy
+returns-3 c =
+    let came = c .before .before .before .before .before .before in
+    rw (came .before .before .before .before .enum-told3 .given .1) (ap (λ r. evaluated (r .answer) (r .values) (r .work)) (came .plain-eigenvalues-of-finite .ensures))
+
+pub evaluate-spec : {M : Type 1} → statement M
+evaluate-spec = tie.close (tie.spec (λ c. omega arith) (λ c κs. omega arith) (λ c. omega arith) (λ c κs. omega arith) (λ c. omega arith) (λ c κs. omega arith)
+    (λ c. omega arith) (λ c. omega arith) returns (λ c. omega arith) (λ c. omega arith) (λ c. omega arith) returns-2
+    (λ c. omega arith) (λ c. omega arith) (λ c. omega arith) returns-3)

@@ -1,0 +1,19 @@
+-- `door::lists::small` meets its contract. Assumes nothing.
+use native.Mathlib.Omega.{arith}
+use mathlib.Core.Path.{ap, _∙_}
+use lib.Seq.{length-take-le}
+use Rattle.words.specs.Floats.{zeros}
+use Rattle.words.proofs.Between.{fresh-zeros, fresh-length}
+use Rattle.door.proofs.lists.small.Statement.{statement}
+use Rattle.door.proofs.lists.small.Tie as tie
+
+on-floats-requires : tie.Need-on-floats-requires
+on-floats-requires c κs =
+    let sized = c .before .before .before .before .before in
+    let start = sized .before .before .before .before in
+    (start .pre .2, length-take-le _ _ (omega arith), length-take-le _ _ (omega arith), fresh-zeros _ 16 (omega arith) ∙ ap zeros (sized .second-size .ensures .0))
+
+pub small-spec : {M : Type 1} → statement M
+small-spec = tie.close (tie.spec (λ c. omega arith) (λ c κs. omega arith) (λ c. omega arith) (λ c. fresh-length _ 64 (omega arith)) (λ c. omega arith)
+    (λ c. fresh-length _ 8 (omega arith)) (λ c. omega arith) (λ c. fresh-length _ 16 (omega arith)) on-floats-requires (λ c. omega arith) (λ c. omega arith)
+    (λ c. c .before .before .before .before .before .before .before .on-floats .ensures))

@@ -1,0 +1,29 @@
+-- `door::matrices::larger` meets its contract. Assumes nothing.
+use native.Mathlib.Omega.{arith}
+use native.Mathlib.Nat.{mul-le-mul}
+use lib.ListN.{length}
+use Rattle.door.proofs.MatricesPassing.{MatrixFit, matrix-fit}
+use Rattle.door.proofs.matrices.larger.Statement.{statement}
+use Rattle.door.proofs.matrices.larger.Tie as tie
+
+modest-requires : tie.Need-modest-requires
+modest-requires c κs =
+    let here = c .before .before in
+    (here .if1 .taken, mul-le-mul (here .if1 .taken) (here .if1 .taken), here .before .before .before .before .before .pre)
+
+middle-requires : tie.Need-middle-requires
+middle-requires c κs =
+    let here = c .before .before in
+    (here .if2 .taken, mul-le-mul (here .if2 .taken) (here .if2 .taken), here .before .before .before .before .before .before .before .pre)
+
+large-requires : tie.Need-large-requires
+large-requires c κs =
+    let start = c .before .before .before .before .before .before .before .before .before in
+    let fit = matrix-fit (start .args .r) (start .args .m .now) _ _ (start .pre) in
+    (fit .order, fit .small, start .pre)
+
+pub larger-spec : {M : Type 1} → statement M
+larger-spec = tie.close (tie.spec
+    modest-requires (λ c. omega arith) (λ c. omega arith) (λ c. c .before .before .before .before .modest .ensures)
+    middle-requires (λ c. omega arith) (λ c. omega arith) (λ c. c .before .before .before .before .middle .ensures)
+    large-requires (λ c. omega arith) (λ c. omega arith) (λ c. c .before .before .before .before .large .ensures))

@@ -1,0 +1,16 @@
+-- `door::matrices::middle` meets its contract. Assumes nothing.
+use native.Mathlib.Omega.{arith}
+use lib.Seq.{length-take-le}
+use Rattle.words.proofs.Between.{fresh-zeros, fresh-length}
+use Rattle.door.proofs.matrices.middle.Statement.{statement}
+use Rattle.door.proofs.matrices.middle.Tie as tie
+
+on-floats-requires : tie.Need-on-floats-requires
+on-floats-requires c κs =
+    let first = c .before .before .before .before .before .before .before .before in
+    (first .pre .2, length-take-le _ _ (omega arith), fresh-zeros _ 1096 (omega arith), fresh-zeros _ 64 (omega arith))
+
+pub middle-spec : {M : Type 1} → statement M
+middle-spec = tie.close (tie.spec (λ c. omega arith) (λ c. omega arith) (λ c. fresh-length _ 1096 (omega arith)) (λ c. omega arith) (λ c. fresh-length _ 1096 (omega arith))
+    (λ c. omega arith) (λ c. omega arith) (λ c. fresh-length _ 64 (omega arith)) on-floats-requires (λ c. omega arith) (λ c. omega arith)
+    (λ c. c .before .before .before .before .before .before .before .on-floats .ensures))

@@ -1,0 +1,10 @@
+-- `door::matrices::write_q` meets its contract. Assumes nothing.
+use native.Mathlib.Omega.{arith}
+use Rattle.words.proofs.Between.{encoded}
+use Rattle.door.proofs.matrices.write_q.Statement.{statement}
+use Rattle.door.proofs.matrices.write_q.Tie as tie
+
+pub write-q-spec : {M : Type 1} → statement M
+write-q-spec = tie.close (tie.spec (λ c κs. omega arith) (λ c. omega arith)
+    (λ c. rw (c .before .before .before .before .if1 .taken) (encoded _ (c .before .before .before .before .before .before .before .args .q .now) (c .before .before .encode .ensures) (c .before .before .before .before .before .before .before .pre (c .before .before .before .before .if1 .taken))))
+    (λ c. rw (c .if1 .left)))

@@ -1,0 +1,60 @@
+-- The decomposition over bytes: what it answers, and the bytes that it leaves. It is the library's definition on the floats whose patterns are lent; lengths are
+-- those of the bytes. A refusal before the run leaves every lent byte as it was; what is written is the pattern of a float, 7FF8000000000000 for NaN.
+use Prim.Native.Nat.{ℕ, _*_}
+use mathlib.Core.Bool.{Bool, cond}
+use mathlib.Core.List.{List}
+use lib.ListN.{length}
+use lib.Ieee.{binary64, ofBits}
+use Rattle.pass.specs.declared.setting.Setting.{Setting}
+use Rattle.pass.specs.Setting.{setting}
+use Rattle.pass.specs.Pair.{pair}
+use Rattle.schur.specs.Run.{ranOf}
+use Rattle.refusal.specs.declared.refusal.Checked.{Checked}
+use Rattle.refusal.specs.declared.refusal.Checked.the-variants.{Passed, Refused}
+use Rattle.refusal.specs.Checks.{matrixLengths}
+use Rattle.decomposition.specs.Checks.{argumentChecks}
+use Rattle.decomposition.specs.Decomposition.{Settlement, decided}
+use Rattle.words.specs.Floats.{floatsOf, bytesOf, zeros}
+use Rattle.door.specs.declared.matrices.Request.{Request}
+use Rattle.door.specs.Answer.{refusalNumber, decomposedNumber}
+
+-- ---- what a host asks for; the tolerance is told as its pattern
+
+abbrev pub request : (n : ℕ) → (wanted : Bool) → (tolerance budget : ℕ) → Request
+request n wanted tolerance budget = record { order = n; wanted = wanted; tolerance = tolerance; budget = budget }
+
+abbrev pub askedBy : Request → Setting
+askedBy r = setting (r .order) (r .wanted) (ofBits binary64 (r .tolerance))
+
+-- ---- what is answered, and the bytes of T and Q
+
+pub record Matrices : Type 0 where
+  pub answer : ℕ
+  pub t : List ℕ
+  pub q : List ℕ
+
+abbrev pub matrices : (answer : ℕ) → (t q : List ℕ) → Matrices
+matrices answer t q = record { answer = answer; t = t; q = q }
+
+-- 1 to 6; tn and qn are the lengths of what is lent for T and Q
+unfoldable pub matrixChecks : Request → (m : List ℕ) → (tn qn : ℕ) → Checked
+matrixChecks r m tn qn =
+    argumentChecks (matrixLengths (r .wanted) (8 * (r .order * r .order)) (length m) tn qn) (askedBy r) (r .budget) (floatsOf m)
+
+-- T, and Q if it is wanted
+unfoldable pub writtenMatrices : (wanted : Bool) → Settlement → (q : List ℕ) → Matrices
+writtenMatrices wanted s q = matrices (decomposedNumber (s .answer)) (bytesOf (s .pair .t)) (cond wanted (bytesOf (s .pair .q)) q)
+
+-- after the run, accepted or refused
+unfoldable pub ranBytes : Request → (m q : List ℕ) → Matrices
+ranBytes r m q =
+    let run = ranOf (askedBy r) (r .budget) (pair (floatsOf m) (zeros (r .order * r .order))) (zeros (2 * r .order)) in
+    writtenMatrices (r .wanted) (decided (askedBy r) (run .answer) (run .pair)) q
+
+-- refused before the run: every byte is as it was
+unfoldable pub decomposedFrom : Checked → (written : Matrices) → (t q : List ℕ) → Matrices
+decomposedFrom Passed written t q = written
+decomposedFrom (Refused r) written t q = matrices (refusalNumber r) t q
+
+unfoldable pub decomposeBytes : Request → (m t q : List ℕ) → Matrices
+decomposeBytes r m t q = decomposedFrom (matrixChecks r m (length t) (length q)) (ranBytes r m q) t q
