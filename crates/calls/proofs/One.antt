@@ -16,13 +16,13 @@ module _ (κs : Lfts 4) where
   Exit = AtExit (endedOf 4 kinds.ps kinds.r) κs
 
   abbrev x : Exit → List Float
-  x s = s .1 .1 .1 .1 .1 .0 .now
+  x s = s .1 .1 .0 .now
 
   abbrev y : Exit → List Float
-  y s = s .1 .1 .1 .1 .1 .1 .0 .now
+  y s = s .1 .1 .1 .0 .now
 
   abbrev z : Exit → List Float
-  z s = s .1 .1 .1 .1 .1 .1 .1 .0 .now
+  z s = s .1 .1 .1 .1 .0 .now
 
   pub one-call : (a : Dens κs kinds.ps) (r r' : Told) (s s' : Exit) → reads.Post κs a r s → reads.Post κs a r' s' → (r ≡ r') × (x s ≡ x s') × (y s ≡ y s') × (z s ≡ z s')
   one-call a r r' s s' h k =

@@ -1,10 +1,12 @@
 -- A call of an entry by its number: what is told, and what the three lent slices hold afterwards. Each entry is the library's definition of it; a slice that it
 -- does not have stays as it was.
 use Prim.Native.Nat.{ℕ}
-use mathlib.Core.Bool.{true, false, cond}
+use mathlib.Core.Bool.{Bool, true, false, cond}
 use mathlib.Core.List.{List}
 use lib.Dec.{eqb}
 use lib.Ieee.{Float}
+use Rattle.pass.specs.declared.setting.Setting.{Setting}
+use Rattle.pass.specs.Setting.{setting}
 use Rattle.pass.specs.Pair.{pair}
 use Rattle.refusal.specs.declared.refusal.Told.{Told}
 use Rattle.refusal.specs.declared.refusal.Checked.{Checked}
@@ -14,7 +16,8 @@ use Rattle.decomposition.specs.declared.Decomposed.{Decomposed}
 use Rattle.decomposition.specs.declared.Decomposed.the-variants.{Accepted, Declined}
 use Rattle.decomposition.specs.Decomposition.{Outcome, decompositionOf}
 use Rattle.eigenvalues.specs.Readers.{Read, ComplexRead, realRead, complexRead}
-use Rattle.eigenvalues.specs.Plain.{Plain, plainOf}
+use Rattle.plain.specs.Plain.{Plain, plainOf}
+use Rattle.calls.specs.declared.Call.{Call}
 
 pub record Came : Type 0 where
   pub told : Told
@@ -53,11 +56,14 @@ plainCame r z = came (checkedTold (r .answer)) (r .values) (r .work) z
 
 -- ---- all of them
 
--- m is the matrix or T of order n
-unfoldable pub callOf : (entry : ℕ) → (m : List Float) → (n : ℕ) → (tolerance : Float) → (budget : ℕ) → (x y z : List Float) → Came
-callOf entry m n tolerance budget x y z =
-    cond (eqb entry 1) (decomposedCame (decompositionOf true n tolerance budget m (pair x y) z))
-    (cond (eqb entry 2) (decomposedCame (decompositionOf false n tolerance budget m (pair x y) z))
-    (cond (eqb entry 3) (realCame (realRead n m x) y z)
-    (cond (eqb entry 4) (complexCame (complexRead n m x y) z)
-    (plainCame (plainOf n m x y) z))))
+abbrev pub askedFor : Call → (wanted : Bool) → Setting
+askedFor c wanted = setting (c .order) wanted (c .tolerance)
+
+-- m is the matrix or T
+unfoldable pub callOf : Call → (m x y z : List Float) → Came
+callOf c m x y z =
+    cond (eqb (c .entry) 1) (decomposedCame (decompositionOf (askedFor c true) (c .budget) m (pair x y) z))
+    (cond (eqb (c .entry) 2) (decomposedCame (decompositionOf (askedFor c false) (c .budget) m (pair x y) z))
+    (cond (eqb (c .entry) 3) (realCame (realRead (c .order) m x) y z)
+    (cond (eqb (c .entry) 4) (complexCame (complexRead (c .order) m x y) z)
+    (plainCame (plainOf (c .order) m x y) z))))

@@ -3,8 +3,9 @@
 // lent slices: T, Q and workspace; eigenvalues; real parts and imaginary parts; eigenvalues and workspace. The others are
 // left alone.
 ghost use mathlib.Core.Path.{_≡_};
-ghost use Rattle.calls.specs.Call.{decomposedTold, checkedTold, came, callOf};
+ghost use Rattle.calls.specs.Call.{decomposedTold, checkedTold, came, askedFor, callOf};
 use decomposition::Decomposed;
+use pass::Setting;
 use refusal::Checked;
 use refusal::Told;
 
@@ -35,29 +36,39 @@ fn checked(c: Checked) -> Told
     }
 }
 
-pub fn run(
-    entry: u64,
-    m: &[f64],
-    n: usize,
-    tolerance: f64,
-    budget: u64,
-    x: &mut [f64],
-    y: &mut [f64],
-    z: &mut [f64],
-) -> Told
-    ensures { λ r. ⌜ came r (now (x .exit)) (now (y .exit)) (now (z .exit)) ≡ callOf entry (now (m .entry)) n tolerance budget (now (x .entry)) (now (y .entry)) (now (z .entry)) ⌝ }
+// Which entry, and what it is asked for: the readers and the plain entry look at the order alone.
+pub struct Call {
+    pub entry: u64,
+    pub order: usize,
+    pub tolerance: f64,
+    pub budget: u64,
+}
+
+// The decomposition, with Q or without.
+fn asked(c: Call, wanted: bool) -> Setting
+    ensures { λ r. ⌜ r ≡ askedFor c wanted ⌝ }
 {
-    if entry == 1 {
-        return decomposed(decomposition::try_new(m, n, tolerance, budget, true, x, y, z));
+    Setting {
+        order: c.order,
+        wanted,
+        tolerance: c.tolerance,
     }
-    if entry == 2 {
-        return decomposed(decomposition::try_new(m, n, tolerance, budget, false, x, y, z));
+}
+
+pub fn run(c: Call, m: &[f64], x: &mut [f64], y: &mut [f64], z: &mut [f64]) -> Told
+    ensures { λ r. ⌜ came r (now (x .exit)) (now (y .exit)) (now (z .exit)) ≡ callOf c (now (m .entry)) (now (x .entry)) (now (y .entry)) (now (z .entry)) ⌝ }
+{
+    if c.entry == 1 {
+        return decomposed(decomposition::try_new(m, asked(c, true), c.budget, x, y, z));
     }
-    if entry == 3 {
-        return checked(eigenvalues::eigenvalues(m, n, x));
+    if c.entry == 2 {
+        return decomposed(decomposition::try_new(m, asked(c, false), c.budget, x, y, z));
     }
-    if entry == 4 {
-        return checked(eigenvalues::complex_eigenvalues(m, n, x, y));
+    if c.entry == 3 {
+        return checked(eigenvalues::eigenvalues(m, c.order, x));
     }
-    checked(eigenvalues::plain_eigenvalues(m, n, x, y))
+    if c.entry == 4 {
+        return checked(eigenvalues::complex_eigenvalues(m, c.order, x, y));
+    }
+    checked(plain::plain_eigenvalues(m, c.order, x, y))
 }

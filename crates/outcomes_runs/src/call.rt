@@ -1,5 +1,6 @@
 // A call of the library, by the number of its entry: those of `calls`, and 6, the root. It writes to up to three lent
 // slices: x, y and z.
+use calls::Call;
 use refusal::Told;
 
 // The root of the first number.
@@ -16,18 +17,9 @@ fn root(m: &[f64], x: &mut [f64]) -> Told {
     }
 }
 
-pub(crate) fn run(
-    entry: u64,
-    m: &[f64],
-    n: usize,
-    tolerance: f64,
-    budget: u64,
-    x: &mut [f64],
-    y: &mut [f64],
-    z: &mut [f64],
-) -> Told {
-    if entry == 6 {
+pub(crate) fn run(c: Call, m: &[f64], x: &mut [f64], y: &mut [f64], z: &mut [f64]) -> Told {
+    if c.entry == 6 {
         return root(m, x);
     }
-    calls::run(entry, m, n, tolerance, budget, x, y, z)
+    calls::run(c, m, x, y, z)
 }

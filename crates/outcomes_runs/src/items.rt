@@ -8,6 +8,7 @@ use crate::read::words;
 use crate::say::sum;
 use crate::say::told;
 use crate::say::word;
+use calls::Call;
 
 fn numbers(c: &[u64]) -> [f64; 64] {
     let mut m = [0.0; 64];
@@ -22,16 +23,13 @@ fn compare(c: &[u64], m: &[f64], x: &mut [f64], y: &mut [f64], z: &mut [f64], w:
     requires { ⌜ 7 ≤ length (now c) ⌝ }
 {
     let entry = c[0];
-    let t = call::run(
+    let asked = Call {
         entry,
-        m,
-        c[1] as usize,
-        scalar::of_bits(c[2]),
-        c[3],
-        x,
-        y,
-        z,
-    );
+        order: c[1] as usize,
+        tolerance: scalar::of_bits(c[2]),
+        budget: c[3],
+    };
+    let t = call::run(asked, m, x, y, z);
     told(entry, t);
     expected::same(w, t, x, y, z)
 }

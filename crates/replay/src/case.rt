@@ -4,6 +4,7 @@ ghost use lib.ListN.{length};
 use crate::expected;
 use crate::met;
 use crate::slots::start;
+use calls::Call;
 
 // What lent memory holds before a call. No answer has it: the oracle sees to that.
 pub(crate) const LENT: u64 = 0x0123_4567_89ab_cdef;
@@ -60,7 +61,13 @@ fn make(
     slots: &[f64],
     counts: &mut [u64],
 ) -> bool {
-    let t = calls::run(c.entry, m, c.order, c.tolerance, c.budget, x, y, z);
+    let call = Call {
+        entry: c.entry,
+        order: c.order,
+        tolerance: c.tolerance,
+        budget: c.budget,
+    };
+    let t = calls::run(call, m, x, y, z);
     met::count(counts, c.entry, t.number);
     expected::same(c, t, x, y, z, slots)
 }
