@@ -183,6 +183,17 @@ fn large(c: ListCall, m: &[u8], re: &mut [u8], im: &mut [u8]) -> u64
     on_floats(c, m, re, im, &mut a[..k], &mut x[..n], &mut y[..second])
 }
 
+// The first checks have passed. For orders above 8.
+fn larger(c: ListCall, m: &[u8], re: &mut [u8], im: &mut [u8]) -> u64
+    requires { ⌜ listChecks (c .entry) (c .order) (now m) (length (now re)) (length (now im)) ≡ Passed ⌝ }
+    ensures { λ r. ⌜ complexListed r (now (re .exit)) (now (im .exit)) ≡ listsBytes (c .entry) (c .order) (now (m .entry)) (now (re .entry)) (now (im .entry)) ⌝ }
+{
+    if c.order <= 32 {
+        return middle(c, m, re, im);
+    }
+    large(c, m, re, im)
+}
+
 // The first checks have passed.
 fn run(c: ListCall, m: &[u8], re: &mut [u8], im: &mut [u8]) -> u64
     requires { ⌜ listChecks (c .entry) (c .order) (now m) (length (now re)) (length (now im)) ≡ Passed ⌝ }
@@ -191,10 +202,38 @@ fn run(c: ListCall, m: &[u8], re: &mut [u8], im: &mut [u8]) -> u64
     if c.order <= 8 {
         return small(c, m, re, im);
     }
-    if c.order <= 32 {
-        return middle(c, m, re, im);
+    // Called in places that differ, so that the compiler keeps it apart, as the decomposition's.
+    let order = c.order;
+    let entry = c.entry;
+    match entry {
+        ListEntry::Real => larger(
+            ListCall {
+                entry: ListEntry::Real,
+                order,
+            },
+            m,
+            re,
+            im,
+        ),
+        ListEntry::Complex => larger(
+            ListCall {
+                entry: ListEntry::Complex,
+                order,
+            },
+            m,
+            re,
+            im,
+        ),
+        ListEntry::Plain => larger(
+            ListCall {
+                entry: ListEntry::Plain,
+                order,
+            },
+            m,
+            re,
+            im,
+        ),
     }
-    large(c, m, re, im)
 }
 
 // Any call: 0, or a refusal.

@@ -184,10 +184,30 @@ pub(crate) fn run(r: Request, m: &[u8], t: &mut [u8], q: &mut [u8]) -> u64
     if r.order <= 8 {
         return small(r, m, t, q);
     }
-    // Called in two places, so that the compiler keeps it apart: in line, its rooms would lie in one frame with
-    // the small one, and every call would touch each page of it.
+    // Called in two places that differ, so that the compiler keeps it apart: in line, its rooms would lie in one
+    // frame with the small one, and every call would touch each page of it.
     if r.wanted {
-        return larger(r, m, t, q);
+        return larger(
+            Request {
+                order: r.order,
+                wanted: true,
+                tolerance: r.tolerance,
+                budget: r.budget,
+            },
+            m,
+            t,
+            q,
+        );
     }
-    larger(r, m, t, q)
+    larger(
+        Request {
+            order: r.order,
+            wanted: false,
+            tolerance: r.tolerance,
+            budget: r.budget,
+        },
+        m,
+        t,
+        q,
+    )
 }

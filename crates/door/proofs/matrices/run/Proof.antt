@@ -1,6 +1,13 @@
 -- `door::matrices::run` meets its contract. Assumes nothing.
 use native.Mathlib.Omega.{arith}
 use native.Mathlib.Nat.{mul-le-mul}
+use mathlib.Core.Path.{_≡_, sym, ap, _∙_}
+use mathlib.Core.Bool.{Bool}
+use mathlib.Core.List.{List}
+use Prim.Native.Nat.{ℕ}
+use Rattle.refusal.specs.declared.refusal.Checked.the-variants.{Passed}
+use Rattle.door.specs.declared.matrices.Request.{Request}
+use Rattle.door.specs.Matrices.{request, matrixChecks, ranBytes}
 use Rattle.door.proofs.matrices.run.Statement.{statement}
 use Rattle.door.proofs.matrices.run.Tie as tie
 
@@ -9,8 +16,43 @@ small-requires c κs =
     let here = c .before .before in
     (here .if1 .taken, mul-le-mul (here .if1 .taken) (here .if1 .taken), here .before .before .before .before .before .pre)
 
+-- the same request, with what is known of `wanted` written out
+abbrev known : Request → Bool → Request
+known r b = request (r .order) b (r .tolerance) (r .budget)
+
+checked : (r : Request) (m : List ℕ) (tn qn : ℕ) {b : Bool} → r .wanted ≡ b → matrixChecks r m tn qn ≡ Passed → matrixChecks (known r b) m tn qn ≡ Passed
+checked r m tn qn h passed = sym (ap (λ b. matrixChecks (known r b) m tn qn) h) ∙ passed
+
+ran : (r : Request) (m q : List ℕ) {b : Bool} → r .wanted ≡ b → ranBytes (known r b) m q ≡ ranBytes r m q
+ran r m q h = sym (ap (λ b. ranBytes (known r b) m q) h)
+
+larger-requires : tie.Need-larger-requires
+larger-requires c κs =
+    let here = c .before .before in
+    let start = here .before .before .before .before .before .before in
+    checked (start .args .r) (start .args .m .now) _ _ (here .if2 .taken) (start .pre)
+
+larger-requires-2 : tie.Need-larger-requires-2
+larger-requires-2 c κs =
+    let here = c .before .before in
+    let start = here .before .before .before .before .before .before in
+    checked (start .args .r) (start .args .m .now) _ _ (here .if2 .left) (start .pre)
+
+returns-2 : tie.Need-returns-2
+returns-2 c =
+    let came = c .before .before .before .before in
+    let here = came .before .before .before in
+    let x = here .before .before .before .before .before .before .args in
+    came .larger .ensures ∙ ran (x .r) (x .m .now) (x .q .now) (here .if2 .taken)
+
+returns-3 : tie.Need-returns-3
+returns-3 c =
+    let came = c .before .before .before .before in
+    let here = came .before .before .before in
+    let x = here .before .before .before .before .before .before .args in
+    came .larger2 .ensures ∙ ran (x .r) (x .m .now) (x .q .now) (here .if2 .left)
+
 pub run-spec : {M : Type 1} → statement M
 run-spec = tie.close (tie.spec
     small-requires (λ c. omega arith) (λ c. omega arith) (λ c. c .before .before .before .before .small .ensures)
-    (λ c κs. c .before .before .before .before .before .before .before .before .pre) (λ c. omega arith) (λ c. omega arith) (λ c. c .before .before .before .before .larger .ensures)
-    (λ c κs. c .before .before .before .before .before .before .before .before .pre) (λ c. omega arith) (λ c. omega arith) (λ c. c .before .before .before .before .larger2 .ensures))
+    larger-requires (λ c. omega arith) (λ c. omega arith) returns-2 larger-requires-2 (λ c. omega arith) (λ c. omega arith) returns-3)
