@@ -61,7 +61,7 @@ module _ (lengths : Checked) (asked : Setting) (budget : ℕ) (m : List Float) (
       let a = as-run lengths asked budget m p w e in
       elim (ran-tells asked budget (pair m (p .q)) w) [
         | ended k f ↦ (let same : c ≡ count = a .1 ∙ ap passesOf f in (same, omega (arith, k (budgeted (accepted-passed lengths asked budget m p w e)))))
-        | reached _ _ f ↦ absurd (refused-not-passed BudgetReached (sym (ap (verdict asked _) f) ∙ a .0))
+        | reached _ _ f ↦ absurd (refused-not-passed BudgetReached (sym (ap (λ a. verdict asked a _) f) ∙ a .0))
       ]
 
   -- what an entry promises of its count
@@ -75,7 +75,7 @@ module _ (lengths : Checked) (asked : Setting) (budget : ℕ) (m : List Float) (
   refused-reached h e =
       let a = as-refused lengths asked budget m p w h e in
       elim (ran-tells asked budget (pair m (p .q)) w) [
-        | ended _ f ↦ absurd (ended-no-budget asked _ (sym (ap (verdict asked _) f) ∙ a .0))
+        | ended _ f ↦ absurd (ended-no-budget asked _ (sym (ap (λ a. verdict asked a _) f) ∙ a .0))
         | reached _ k _ ↦ k
       ]
 
@@ -83,4 +83,4 @@ module _ (lengths : Checked) (asked : Setting) (budget : ℕ) (m : List Float) (
   unfolding judged decided verdict settled
   reached-refused h e =
       let f = count-reached asked budget (pair m (p .q)) w (budgeted h) e in
-      ap (λ o. o .answer) (run-judged lengths asked budget m p w h) ∙ ap (λ a. settled asked (passesOf a) (verdict asked (ran .pair) a) (ran .pair) .answer) (f .1)
+      ap (λ o. o .answer) (run-judged lengths asked budget m p w h) ∙ ap (λ a. settled asked (passesOf a) (verdict asked a (ran .pair)) (ran .pair) .answer) (f .1)

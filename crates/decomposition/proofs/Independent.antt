@@ -43,11 +43,11 @@ module _ (asked : Setting) where
       let a = next-passed _ _ h in
       sym (ap (λ t. resultChecks without (pair t (r .q))) e) ∙ next-on _ _ (a .0) ∙ next-on Passed _ refl ∙ next-passed _ _ (a .1) .1
 
-  verdict-without : (p r : Pair) (a : Ran) → p .t ≡ r .t → verdict with p a ≡ Passed → verdict without r a ≡ Passed
+  verdict-without : (a : Ran) (p r : Pair) → p .t ≡ r .t → verdict with a p ≡ Passed → verdict without a r ≡ Passed
   unfolding verdict
-  verdict-without p r (Ended c) e h = result-without p r e h
-  verdict-without p r (BudgetReached w) e h = absurd (refused-not-passed _ h)
-  verdict-without p r Unfit e h = absurd (refused-not-passed _ h)
+  verdict-without (Ended c) p r e h = result-without p r e h
+  verdict-without (BudgetReached w) p r e h = absurd (refused-not-passed _ h)
+  verdict-without Unfit p r e h = absurd (refused-not-passed _ h)
 
 module _ (asked : Setting) (budget : ℕ) (m t q q' w : List Float) where
   checks-without : checksOf (with asked) budget m (pair t q) w ≡ Passed → checksOf (without asked) budget m (pair t q') w ≡ Passed
@@ -81,7 +81,7 @@ module _ (asked : Setting) (budget : ℕ) (m t q q' w : List Float) where
   accepted-without e =
       let x = as-run _ (with asked) budget m (pair t q) w e in
       let same = ranOf-same true false asked budget m q q' w in
-      let told = ap (verdict (without asked) _) (sym (same .answer)) ∙ verdict-without asked _ _ _ (same .t) (x .0) in
+      let told = ap (λ a. verdict (without asked) a _) (sym (same .answer)) ∙ verdict-without asked _ _ _ (same .t) (x .0) in
       let other =
       accepted-run _ (without asked) budget m (pair t q') w (checks-without (accepted-passed _ (with asked) budget m (pair t q) w e)) told
       ∙ ap (λ a. Accepted (passesOf a)) (sym (same .answer)) ∙ sym (ap Accepted (x .1)) in

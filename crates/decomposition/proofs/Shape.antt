@@ -24,11 +24,11 @@ use Rattle.decomposition.proofs.Touched.{accepted-passed, as-run, t-squ
 
 -- ---- only a run that has ended passes, and where T and Q have passed
 
-verdict-passed : (asked : Setting) (p : Pair) (r : Ran) → verdict asked p r ≡ Passed → resultChecks asked p ≡ Passed
+verdict-passed : (asked : Setting) (r : Ran) (p : Pair) → verdict asked r p ≡ Passed → resultChecks asked p ≡ Passed
 unfolding verdict
-verdict-passed asked p (Ended passes) h = h
-verdict-passed asked p (BudgetReached window) h = absurd (refused-not-passed _ h)
-verdict-passed asked p Unfit h = absurd (refused-not-passed _ h)
+verdict-passed asked (Ended passes) p h = h
+verdict-passed asked (BudgetReached window) p h = absurd (refused-not-passed _ h)
+verdict-passed asked Unfit p h = absurd (refused-not-passed _ h)
 
 -- in T nothing is found then
 found-none : (asked : Setting) (p : Pair) → resultChecks asked p ≡ Passed → (firstNotFinite (asked .order) (p .t) ≡ Nowhere) × (firstSpoiling (asked .order) (p .t) ≡ Nowhere)

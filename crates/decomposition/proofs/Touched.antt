@@ -51,7 +51,7 @@ settled-length asked passes (Refused r) p = spoiled-length asked p
 
 judged-length : (asked : Setting) (l : Left) (w : List Float) → AsLong (l .pair) (judged asked l w .pair)
 unfolding judged decided
-judged-length asked l w = settled-length asked (passesOf (l .answer)) (verdict asked (l .pair) (l .answer)) (l .pair)
+judged-length asked l w = settled-length asked (passesOf (l .answer)) (verdict asked (l .answer) (l .pair)) (l .pair)
 
 -- a list filled with NaN
 nan-throughout : (t u : List Float) → t ≡ filled nan u → (i : ℕ) → i < length t → t ! i ≡ nan
@@ -95,16 +95,16 @@ module _ (lengths : Checked) (asked : Setting) (budget : ℕ) (m : List Float) (
       go (Refused r) h = let other = ap (λ o. o .answer) (untouched h) in cc
 
   -- accepted: T and Q are the run's, and all else has passed too; and the other way round
-  pub as-run : {c : ℕ} → whole .answer ≡ Accepted c → (verdict asked (ran .pair) (ran .answer) ≡ Passed) × (c ≡ passesOf (ran .answer)) × (whole .pair ≡ ran .pair)
+  pub as-run : {c : ℕ} → whole .answer ≡ Accepted c → (verdict asked (ran .answer) (ran .pair) ≡ Passed) × (c ≡ passesOf (ran .answer)) × (whole .pair ≡ ran .pair)
   unfolding judged decided
   as-run e = let h = accepted-passed e in rw (run-judged h) (settled-accepted _ _ _ _ (rw (run-judged h) at e))
 
-  pub accepted-run : checks ≡ Passed → verdict asked (ran .pair) (ran .answer) ≡ Passed → whole .answer ≡ Accepted (passesOf (ran .answer))
+  pub accepted-run : checks ≡ Passed → verdict asked (ran .answer) (ran .pair) ≡ Passed → whole .answer ≡ Accepted (passesOf (ran .answer))
   unfolding judged decided settled
   accepted-run h k = ap (λ o. o .answer) (run-judged h) ∙ ap (λ c. settled asked (passesOf (ran .answer)) c (ran .pair) .answer) k
 
   -- refused after the run: T and Q are spoiled
-  pub as-refused : {r : Refusal} → checks ≡ Passed → whole .answer ≡ Declined r → (verdict asked (ran .pair) (ran .answer) ≡ Refused r) × (whole .pair ≡ spoiled asked (ran .pair))
+  pub as-refused : {r : Refusal} → checks ≡ Passed → whole .answer ≡ Declined r → (verdict asked (ran .answer) (ran .pair) ≡ Refused r) × (whole .pair ≡ spoiled asked (ran .pair))
   unfolding judged decided
   as-refused h e = rw (run-judged h) (settled-declined _ _ _ _ (rw (run-judged h) at e))
 

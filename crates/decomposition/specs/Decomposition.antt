@@ -30,10 +30,10 @@ outcome answer p w = record { answer = answer; pair = p; work = w }
 -- ---- after a run
 
 -- The budget was reached: 7. Else T and Q are looked at. That an argument does not fit is never met here, since the lengths were checked before.
-unfoldable pub verdict : Setting → Pair → Ran → Checked
-verdict asked p (Ended passes) = resultChecks asked p
-verdict asked p (BudgetReached window) = Refused refusal.BudgetReached
-verdict asked p Unfit = Refused refusal.WrongLength
+unfoldable pub verdict : Setting → Ran → Pair → Checked
+verdict asked (Ended passes) p = resultChecks asked p
+verdict asked (BudgetReached window) p = Refused refusal.BudgetReached
+verdict asked Unfit p = Refused refusal.WrongLength
 
 -- the counted passes of a run that ended
 unfoldable pub passesOf : Ran → ℕ
@@ -58,7 +58,7 @@ settled asked passes (Refused r) p = settlement (Declined r) (spoiled asked p)
 
 -- a run that answered so, and left this T and Q
 unfoldable pub decided : Setting → Ran → Pair → Settlement
-decided asked ran p = settled asked (passesOf ran) (verdict asked p ran) p
+decided asked ran p = settled asked (passesOf ran) (verdict asked ran p) p
 
 -- accepted or refused, the workspace is +0 throughout
 unfoldable pub judged : Setting → Left → (w : List Float) → Outcome

@@ -143,7 +143,7 @@ fn check_t_and_q(t: &[f64], q: &[f64], asked: Setting) -> Checked
 
 // What is to be said of a run that left this T and Q.
 fn judge(ran: Ran, t: &[f64], q: &[f64], asked: Setting) -> Checked
-    ensures { λ r. ⌜ r ≡ verdict asked (pair (now (t .entry)) (now (q .entry))) ran ⌝ }
+    ensures { λ r. ⌜ r ≡ verdict asked ran (pair (now (t .entry)) (now (q .entry))) ⌝ }
 {
     match ran {
         Ran::Ended(_) => check_t_and_q(t, q, asked),

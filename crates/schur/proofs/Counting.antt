@@ -38,14 +38,14 @@ run-counts asked = record {
   going = λ x still. elim (turned asked x) [ counts e ↦ e | ends _ c ↦ absurd (true≢false (sym c ∙ still)) ];
 }
 
-pub opened-none : (asked : Setting) (w : List Float) (p : Pair) → passesAt (opened asked w p) ≡ 0
+pub opened-none : (asked : Setting) (p : Pair) (w : List Float) → passesAt (opened asked p w) ≡ 0
 unfolding opened delimiting
-opened-none asked w p = refl
+opened-none asked p w = refl
 
 -- the run's passes are the budget at most
-within : (asked : Setting) (budget : ℕ) (w : List Float) (p : Pair) → passesAt (runFrom asked budget (opened asked w p)) ≤ budget
+within : (asked : Setting) (budget : ℕ) (p : Pair) (w : List Float) → passesAt (runFrom asked budget (opened asked p w)) ≤ budget
 unfolding runFrom
-within asked budget w p = omega (arith, opened-none asked w p, count-most (run-counts asked) budget (opened asked w p))
+within asked budget p w = omega (arith, opened-none asked p w, count-most (run-counts asked) budget (opened asked p w))
 
 -- a run whose window is still open has counted its whole budget
 pub run-counted : (asked : Setting) (budget : ℕ) (r : Running) → passesAt r ≡ 0 → closed (runFrom asked budget r) ≡ false → passesAt (runFrom asked budget r) ≡ budget
@@ -82,13 +82,13 @@ module _ (asked : Setting) (budget : ℕ) (p : Pair) (w : List Float) where
   -- never above the budget
   pub count-within : count ≤ budget
   unfolding countOf
-  count-within = cond-hold (λ k. k ≤ budget) (eqb (asked .order) 1) _ _ (λ _. omega arith) (cond-hold (λ k. k ≤ budget) (eqb (asked .order) 2) _ _ (λ _. omega arith) (within asked budget w p))
+  count-within = cond-hold (λ k. k ≤ budget) (eqb (asked .order) 1) _ _ (λ _. omega arith) (cond-hold (λ k. k ≤ budget) (eqb (asked .order) 2) _ _ (λ _. omega arith) (within asked budget p w))
 
   pub ran-tells : Tells (ranOf asked budget p w) count budget
   unfolding ranOf countOf
   ran-tells =
       tells-cond (eqb (asked .order) 1) (ended (λ l. omega arith) refl)
-      (tells-cond (eqb (asked .order) 2) (ended (λ l. omega arith) refl) (answered-tells budget (largest (p .t)) _ (within asked budget w p)))
+      (tells-cond (eqb (asked .order) 2) (ended (λ l. omega arith) refl) (answered-tells budget (largest (p .t)) _ (within asked budget p w)))
 
   -- ended: with the count, which is below every budget that is not 0; and the other way round
   pub ended-count : {c : ℕ} → answer ≡ Ended c → c ≡ count

@@ -74,10 +74,10 @@ runFrom-alike b d asked budget x y a =
     (turnOf-alike b d asked)
     a
 
-opened-alike : (b d : Bool) (asked : Setting) (w : List Float) (p r : Pair) → p .t ≡ r .t → Alike (opened (wanting b asked) w p) (opened (wanting d asked) w r)
+opened-alike : (b d : Bool) (asked : Setting) (p r : Pair) (w : List Float) → p .t ≡ r .t → Alike (opened (wanting b asked) p w) (opened (wanting d asked) r w)
 unfolding opened reducedPair
-opened-alike b d asked w p r h =
-    delimiting-alike b d asked (asked .order - 1) (λ v. state v 0) _ _ (ap (λ t. reducedPair asked w (pair (scaledDown t) (r .q)) .t) h)
+opened-alike b d asked p r w h =
+    delimiting-alike b d asked (asked .order - 1) (λ v. state v 0) _ _ (ap (λ t. reducedPair asked (pair (scaledDown t) (r .q)) w .t) h)
 
 -- ---- what is answered and left
 
@@ -106,7 +106,7 @@ unfolding ranOf
 ranOf-same b d asked budget t q q' w =
     same-cond (eqb (asked .order) 1) (record { answer = refl; t = refl })
     (same-cond (eqb (asked .order) 2) (record { answer = refl; t = orderTwo-t b d asked (pair t q) (pair t q') refl })
-    (answered-same budget (largest t) _ _ (runFrom-alike b d asked budget _ _ (opened-alike b d asked w (pair t q) (pair t q') refl))))
+    (answered-same budget (largest t) _ _ (runFrom-alike b d asked budget _ _ (opened-alike b d asked (pair t q) (pair t q') w refl))))
 
 -- Two runs on one matrix, with one tolerance, budget and workspace: whether Q is wanted or not, and whatever is lent for it, they answer the same (the
 -- count, or the window at which the budget was reached) and leave the same T.

@@ -66,9 +66,9 @@ pub scaledDown-length : (t : List Float) → length (scaledDown t) ≡ length t
 unfolding scaledDown unscaled
 scaledDown-length t = cond-hold (λ s. length s ≡ length t) (isZero (largest t)) t (unscaled (largest t) t) (λ _. refl) (eachTo-length _ _ t)
 
-reducedPair-length : (asked : Setting) (w : List Float) (p : Pair) → AsLong p (reducedPair asked w p)
+reducedPair-length : (asked : Setting) (p : Pair) (w : List Float) → AsLong p (reducedPair asked p w)
 unfolding reducedPair
-reducedPair-length asked w p =
+reducedPair-length asked p w =
     let n = asked .order in
     let r = reduced n (p .t) w in
     record {
@@ -76,12 +76,12 @@ reducedPair-length asked w p =
       q = onQ-length (asked .wanted) (unpackedQ n (r .matrix) (r .work)) (p .q) (unpackedQ-length n (r .matrix) (r .work) (p .q));
     }
 
-opened-length : (asked : Setting) (w : List Float) (p : Pair) → AsLong p (opened asked w p .pair)
+opened-length : (asked : Setting) (p : Pair) (w : List Float) → AsLong p (opened asked p w .pair)
 unfolding opened
-opened-length asked w p =
+opened-length asked p w =
     let down = pair (scaledDown (p .t)) (p .q) in
     then-long (record { t = scaledDown-length (p .t); q = refl })
-    (then-long (reducedPair-length asked w down) (delimiting-length asked (asked .order - 1) (λ v. state v 0) (reducedPair asked w down)))
+    (then-long (reducedPair-length asked down w) (delimiting-length asked (asked .order - 1) (λ v. state v 0) (reducedPair asked down w)))
 
 answered-length : (budget : ℕ) (amax : Float) (r : Running) → AsLong (r .pair) (answered budget amax r .pair)
 unfolding answered scaled
@@ -94,9 +94,9 @@ answered-length budget amax r =
 pub ran-length : (asked : Setting) (budget : ℕ) (p : Pair) (w : List Float) → AsLong p (ranOf asked budget p w .pair)
 unfolding ranOf
 ran-length asked budget p w =
-    let r = opened asked w p in
+    let r = opened asked p w in
     let whole = answered budget (largest (p .t)) (runFrom asked budget r) in
     cond-hold (λ (l : Left). AsLong p (l .pair)) (eqb (asked .order) 1) (left (Ended 0) (pair (p .t) (onQ (asked .wanted) (filled one) (p .q)))) _
     (λ _. record { t = refl; q = onQ-length (asked .wanted) (filled one) (p .q) (filled-length one (p .q)) })
     (cond-hold (λ (l : Left). AsLong p (l .pair)) (eqb (asked .order) 2) (left (Ended 0) (orderTwo asked p)) whole (λ _. orderTwo-length asked p)
-    (then-long (then-long (opened-length asked w p) (runFrom-length asked budget r)) (answered-length budget _ (runFrom asked budget r))))
+    (then-long (then-long (opened-length asked p w) (runFrom-length asked budget r)) (answered-length budget _ (runFrom asked budget r))))

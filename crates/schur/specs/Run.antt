@@ -78,15 +78,15 @@ unfoldable pub scaledDown : List Float → List Float
 scaledDown t = cond (isZero (largest t)) t (unscaled (largest t) t)
 
 -- reduced by way of the workspace w: H, and Q where it is wanted
-unfoldable pub reducedPair : Setting → (w : List Float) → Pair → Pair
-reducedPair asked w p =
+unfoldable pub reducedPair : Setting → Pair → (w : List Float) → Pair
+reducedPair asked p w =
     let n = asked .order in
     let r = reduced n (p .t) w in
     pair (unpackedH n (r .work) (r .matrix)) (onQ (asked .wanted) (unpackedQ n (r .matrix) (r .work)) (p .q))
 
 -- scaled down, reduced, delimited: no pass is counted yet
-unfoldable pub opened : Setting → (w : List Float) → Pair → Running
-opened asked w p = delimiting asked (asked .order - 1) (λ v. state v 0) (reducedPair asked w (pair (scaledDown (p .t)) (p .q)))
+unfoldable pub opened : Setting → Pair → (w : List Float) → Running
+opened asked p w = delimiting asked (asked .order - 1) (λ v. state v 0) (reducedPair asked (pair (scaledDown (p .t)) (p .q)) w)
 
 -- what a run answers, and what it leaves in T and Q
 pub record Left : Type 0 where
@@ -112,11 +112,11 @@ runFits n tn wn = leb 1 n && (blockFits n tn n n && eqb wn (2 * n))
 unfoldable pub ranOf : Setting → (budget : ℕ) → Pair → (w : List Float) → Left
 ranOf asked budget p w =
     cond (eqb (asked .order) 1) (left (Ended 0) (pair (p .t) (onQ (asked .wanted) (filled one) (p .q))))
-    (cond (eqb (asked .order) 2) (left (Ended 0) (orderTwo asked p)) (answered budget (largest (p .t)) (runFrom asked budget (opened asked w p))))
+    (cond (eqb (asked .order) 2) (left (Ended 0) (orderTwo asked p)) (answered budget (largest (p .t)) (runFrom asked budget (opened asked p w))))
 
 -- the counted passes of that run: none at orders 1 and 2
 unfoldable pub countOf : Setting → (budget : ℕ) → Pair → (w : List Float) → ℕ
-countOf asked budget p w = cond (eqb (asked .order) 1) 0 (cond (eqb (asked .order) 2) 0 (passesAt (runFrom asked budget (opened asked w p))))
+countOf asked budget p w = cond (eqb (asked .order) 1) 0 (cond (eqb (asked .order) 2) 0 (passesAt (runFrom asked budget (opened asked p w))))
 
 -- where something does not fit nothing is done
 unfoldable pub runOf : Setting → (budget : ℕ) → Pair → (w : List Float) → Left

@@ -128,7 +128,7 @@ fn unpack_q(hess: &[f64], work: &[f64], q: &mut [f64], asked: Setting)
 
 // Reduced: H in t, and Q where it is wanted.
 fn unpack(t: &mut [f64], q: &mut [f64], asked: Setting, work: &mut [f64])
-    ensures { λ _. ⌜ pair (now (t .exit)) (now (q .exit)) ≡ reducedPair asked (now (work .entry)) (pair (now (t .entry)) (now (q .entry))) ⌝ }
+    ensures { λ _. ⌜ pair (now (t .exit)) (now (q .exit)) ≡ reducedPair asked (pair (now (t .entry)) (now (q .entry))) (now (work .entry)) ⌝ }
 {
     hessenberg::new_with_workspace(t, asked.order, work);
     unpack_q(t, work, q, asked);
@@ -143,7 +143,7 @@ struct Opening {
 
 fn begin(t: &mut [f64], q: &mut [f64], asked: Setting, work: &mut [f64]) -> Opening
     requires { ⌜ (asked .order ≤ 64) × (3 ≤ asked .order) × (length (now t) ≡ asked .order * asked .order) ⌝ }
-    ensures { λ r. ⌜ (running (r .state) (pair (now (t .exit)) (now (q .exit))) ≡ opened asked (now (work .entry)) (pair (now (t .entry)) (now (q .entry))))
+    ensures { λ r. ⌜ (running (r .state) (pair (now (t .exit)) (now (q .exit))) ≡ opened asked (pair (now (t .entry)) (now (q .entry))) (now (work .entry)))
         × (r .amax ≡ largest (now (t .entry))) ⌝ }
     ensures { λ r. ⌜ (r .state .window .end < asked .order) × (r .state .window .start ≤ r .state .window .end) × (r .state .passes ≡ 0) ⌝ }
 {
@@ -160,7 +160,7 @@ fn begin(t: &mut [f64], q: &mut [f64], asked: Setting, work: &mut [f64]) -> Open
 fn run_large(t: &mut [f64], q: &mut [f64], asked: Setting, budget: u64, work: &mut [f64]) -> Ran
     requires { ⌜ (asked .order ≤ 64) × (3 ≤ asked .order) × (length (now t) ≡ asked .order * asked .order) ⌝ }
     ensures { λ r. ⌜ left r (pair (now (t .exit)) (now (q .exit)))
-        ≡ answered budget (largest (now (t .entry))) (runFrom asked budget (opened asked (now (work .entry)) (pair (now (t .entry)) (now (q .entry))))) ⌝ }
+        ≡ answered budget (largest (now (t .entry))) (runFrom asked budget (opened asked (pair (now (t .entry)) (now (q .entry))) (now (work .entry)))) ⌝ }
 {
     let begun = begin(t, q, asked, work);
     let state = begun.state;

@@ -63,10 +63,10 @@ opened-shaped n t w small some size room =
       near = λ k h l. absurd (omega arith);
     }
 
-opened-sound : (asked : Setting) (w : List Float) (p : Pair) → asked .order ≤ 64 → 1 ≤ asked .order → length (p .t) ≡ asked .order * asked .order
-    → length w ≡ 2 * asked .order → SoundAt (asked .order) (opened asked w p)
+opened-sound : (asked : Setting) (p : Pair) (w : List Float) → asked .order ≤ 64 → 1 ≤ asked .order → length (p .t) ≡ asked .order * asked .order
+    → length w ≡ 2 * asked .order → SoundAt (asked .order) (opened asked p w)
 unfolding opened delimiting reducedPair
-opened-sound asked w p small some size room =
+opened-sound asked p w small some size room =
     let n = asked .order in
     delimit-sound n (asked .tolerance) (n - 1) _ small (omega arith) (opened-shaped n (scaledDown (p .t)) w small some (scaledDown-length (p .t) ∙ size) room)
 
@@ -120,7 +120,7 @@ unfolding ranOf vanished
 ended-shape {c} asked budget p w some small size room finite none = go (decLt (asked .order) 3)
   where
     first : Running
-    first = opened asked w p
+    first = opened asked p w
 
     go : Dec (asked .order < 3) → ranOf asked budget p w .answer ≡ Ended c → QuasiTriangular (asked .order) (ranOf asked budget p w .pair .t)
     go (yes l) = λ _. small-shape (asked .order) _ (omega arith)
@@ -128,5 +128,5 @@ ended-shape {c} asked budget p w some small size room finite none = go (decLt (a
         let n = asked .order in
         rw (ne-eqb n 1 (λ q. omega arith), ne-eqb n 2 (λ q. omega arith))
         (answered-shape n budget (largest (p .t)) (runFrom asked budget first) finite
-        (run-sound asked budget first small (rw (le-leb 3 n (omega arith)) at none) (opened-sound asked w p small some size room))
-        (run-counted asked budget first (opened-none asked w p)))
+        (run-sound asked budget first small (rw (le-leb 3 n (omega arith)) at none) (opened-sound asked p w small some size room))
+        (run-counted asked budget first (opened-none asked p w)))

@@ -62,4 +62,4 @@ runVanished asked budget r = some (λ m. turnVanished asked (runFrom asked m r))
 
 -- orders 1 and 2 have no pass
 unfoldable pub vanished : Setting → (budget : ℕ) → Pair → (w : List Float) → Bool
-vanished asked budget p w = leb 3 (asked .order) && runVanished asked budget (opened asked w p)
+vanished asked budget p w = leb 3 (asked .order) && runVanished asked budget (opened asked p w)

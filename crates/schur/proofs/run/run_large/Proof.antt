@@ -16,7 +16,7 @@ start c = begun c .before .before .before .before .before .before .before
 
 -- the run's end
 ran : (c : tie.After-run-from) → let x = start c .args in running (c .run-from .result) (pair (c .run-from .last .1 .0) (c .run-from .last .1 .1 .0))
-    ≡ runFrom (x .asked) (x .budget) (opened (x .asked) (x .work .now) (pair (x .t .now) (x .q .now)))
+    ≡ runFrom (x .asked) (x .budget) (opened (x .asked) (pair (x .t .now) (x .q .now)) (x .work .now))
 ran c = let x = start c .args in c .run-from .ensures ∙ ap (runFrom (x .asked) (x .budget)) (begun c .begin .ensures .0 .0)
 
 returns : tie.Need-returns
