@@ -1,20 +1,17 @@
--- The checks of both readers: what is known where all have passed, and what is left of the lent lists. Assumes nothing.
+-- The checks of both readers: what is known where all have passed. Assumes nothing.
 use Prim.Native.Nat.{ℕ, _*_, _≤_}
 use mathlib.Core.Path.{_≡_}
 use mathlib.Core.List.{List}
 use lib.ListN.{length}
 use lib.Ieee.{Float}
-use Rattle.loops.specs.Table.{table}
-use Rattle.refusal.specs.declared.refusal.Refusal.{Refusal}
 use Rattle.refusal.specs.declared.refusal.Refusal.the-variants.{WrongLength}
 use Rattle.refusal.specs.declared.refusal.Checked.{Checked}
-use Rattle.refusal.specs.declared.refusal.Checked.the-variants.{Passed, Refused}
-use Rattle.refusal.specs.Refusal.{_next_, ifPassed}
+use Rattle.refusal.specs.declared.refusal.Checked.the-variants.{Passed}
+use Rattle.refusal.specs.Refusal.{_next_}
 use Rattle.refusal.specs.Checks.{orderChecks, lengthCheck}
-use Rattle.refusal.proofs.Checking.{next-passed}
+use Rattle.refusal.proofs.Checking.{next-passed, next-passes}
 use Rattle.refusal.proofs.Passing.{order-passed, length-passed, given-passed}
-use Rattle.eigenvalues.specs.Blocks.{eigenvalueAt}
-use Rattle.eigenvalues.specs.Readers.{readable, Read, read, listed, complexChecks, complexly, complexLengths, complexRead}
+use Rattle.eigenvalues.specs.Readers.{readable, finiteReadable}
 
 -- ---- what both readers check
 
@@ -30,10 +27,6 @@ readable-fit n t lists h =
     let l = next-passed _ _ (g .lent) in
     record { order = g .order; size = length-passed _ (length t) (n * n) (l .0); room = l .1 }
 
-pub complex-fit : (n : ℕ) (t : List Float) (lists : Checked) → complexChecks (lengthCheck WrongLength (length t) (n * n) next lists) n t ≡ Passed → Fit n (length t) lists
-unfolding complexChecks
-complex-fit n t lists h = readable-fit n t lists (next-passed _ _ h .0)
-
 -- the same where the entries and the shape are not looked at
 pub sizes-fit : (n len : ℕ) (lists : Checked) → (orderChecks n next lengthCheck WrongLength len (n * n) next lists) ≡ Passed → Fit n len lists
 sizes-fit n len lists h =
@@ -41,27 +34,17 @@ sizes-fit n len lists h =
     let l = next-passed _ _ (a .1) in
     record { order = order-passed n (a .0) .order; size = length-passed _ len (n * n) (l .0); room = l .1 }
 
--- ---- the real reader: checks, which come to x, and one more behind them
+-- and where the entries alone are not
+pub finite-fit : (n : ℕ) (t : List Float) (lists : Checked) → finiteReadable (lengthCheck WrongLength (length t) (n * n) next lists) n t ≡ Passed → Fit n (length t) lists
+unfolding finiteReadable
+finite-fit n t lists h =
+    let a = next-passed _ _ h in
+    sizes-fit n _ lists (next-passes (a .0) (next-passed _ _ (a .1) .0))
 
--- they have refused, and the list is as it was
-pub listed-kept : {r : Refusal} {x c : Checked} (d : Checked) (w values : List Float) → x ≡ c → x ≡ Refused r → read x values ≡ listed (read (c next d) w) values
-unfolding listed ifPassed _next_
-listed-kept d w values e h = rw (← e, h)
+-- ---- the lists of each
 
--- they have passed
-pub listed-on : {x c : Checked} {y : Read} (d : Checked) (w values : List Float) → x ≡ c → x ≡ Passed → y ≡ listed (read d w) values → y ≡ listed (read (c next d) w) values
-unfolding _next_
-listed-on d w values e h k = rw (← e, h) k
+pub real-room : {n tn vn : ℕ} → Fit n tn (lengthCheck WrongLength vn n) → (n ≤ 64) × (tn ≡ n * n) × (vn ≡ n)
+real-room f = (f .order, f .size, length-passed _ _ _ (f .room))
 
--- ---- the complex reader
-
-pub complex-kept : {r : Refusal} (n : ℕ) (t re im : List Float) (lists c : Checked) → lists ≡ (lengthCheck WrongLength (length re) n next lengthCheck WrongLength (length im) n)
-    → c ≡ complexChecks (lengthCheck WrongLength (length t) (n * n) next lists) n t → c ≡ Refused r → complexly c re im ≡ complexRead n t re im
-unfolding complexRead complexLengths ifPassed
-complex-kept n t re im lists c l e h = rw (← l, ← e, h)
-
-pub complex-written : (n : ℕ) (t re im : List Float) (lists c : Checked) (x y : List Float) → lists ≡ (lengthCheck WrongLength (length re) n next lengthCheck WrongLength (length im) n)
-    → c ≡ complexChecks (lengthCheck WrongLength (length t) (n * n) next lists) n t → c ≡ Passed → x ≡ table n (λ k. eigenvalueAt n t k .re) → y ≡ table n (λ k. eigenvalueAt n t k .im)
-    → complexly c x y ≡ complexRead n t re im
-unfolding complexRead complexLengths ifPassed
-complex-written n t re im lists c x y l e h v w = rw (← l, ← e, h, v, w)
+pub complex-room : {n tn re im : ℕ} → Fit n tn (lengthCheck WrongLength re n next lengthCheck WrongLength im n) → (n ≤ 64) × (tn ≡ n * n) × (re ≡ n) × (im ≡ n)
+complex-room f = let b = next-passed _ _ (f .room) in (f .order, f .size, length-passed _ _ _ (b .0), length-passed _ _ _ (b .1))

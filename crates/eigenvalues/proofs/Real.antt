@@ -20,7 +20,7 @@ use Rattle.refusal.proofs.Checking.{next-passed, next-passes, next-on, next-sec
 use Rattle.refusal.proofs.Passing.{order-passes, length-passed, length-passes, given-passed, given-passes, only-length, only-given}
 use Rattle.refusal.proofs.Shape.{nowhere-finite, finite-nowhere, nowhere-shape, shape-nowhere}
 use Rattle.eigenvalues.specs.Blocks.{paired}
-use Rattle.eigenvalues.specs.Readers.{readable, anyPaired, pairCheck, realChecks, diagonal, Read, read, listed, realLengths, realRead, diagonalIfReal}
+use Rattle.eigenvalues.specs.Readers.{shapeCheck, readable, anyPaired, pairCheck, realChecks, diagonal, Read, read, listed, diagonalBy, realLengths, realRead, diagonalIfReal}
 use Rattle.eigenvalues.specs.Real.{Given, AllZeroBelow, OneNotZero, RealAnswer}
 use Rattle.eigenvalues.proofs.Answering.{paired-last, paired-by, paired-inside}
 use Rattle.eigenvalues.proofs.Checking.{readable-fit}
@@ -57,7 +57,7 @@ module _ (n : ℕ) (t : List Float) where
 -- ---- what both readers check comes to 9 at most, so that 'complex', 10, is the real reader's own
 
 readable-numbers : (lengths : Checked) (n : ℕ) (t : List Float) → Only (λ r. toldOf r .number ≤ 9) lengths → Only (λ r. toldOf r .number ≤ 9) (readable lengths n t)
-unfolding readable toldOf
+unfolding readable shapeCheck toldOf
 readable-numbers lengths n t h = only-next _ _ _ (only-given _ _ _ _ (omega arith) (omega arith) h (λ _. omega arith)) (only-at _ _ _ (λ _. omega arith))
 
 lengths-numbers : (n tn vn : ℕ) → Only (λ r. toldOf r .number ≤ 9) (realLengths n tn vn)
@@ -83,13 +83,13 @@ module _ (n : ℕ) (t values : List Float) where
 
   -- what both readers check passes exactly on a T that may be read
   given-readable : Given n t values → readable lengths n t ≡ Passed
-  unfolding readable refuseAt
+  unfolding readable shapeCheck refuseAt
   given-readable g =
       next-passes (given-passes (record { some = g .some; order = g .order; lent = lengths-pass (g .square) (g .room); entries = finite-nowhere n t (g .finite) }))
       (rw (shape-nowhere n t (g .shape)))
 
   readable-given : readable lengths n t ≡ Passed → Given n t values
-  unfolding readable realLengths
+  unfolding readable shapeCheck realLengths
   readable-given h =
       let a = next-passed _ _ h in
       let g = given-passed _ n t (a .0) in
@@ -150,13 +150,13 @@ module _ (n : ℕ) (t values : List Float) where
   -- ---- where entries and shape are not looked at
 
   -- 10 alone decides, if all that is lent has its length
-  pub diagonal-fits : 1 ≤ n → n ≤ 64 → length t ≡ n * n → length values ≡ n → diagonalIfReal n t values ≡ listed (read (pairCheck n t) (diagonal n t)) values
+  pub diagonal-fits : 1 ≤ n → n ≤ 64 → length t ≡ n * n → length values ≡ n → diagonalIfReal n t values ≡ diagonalBy (pairCheck n t) n t values
   unfolding diagonalIfReal
   diagonal-fits some order square room =
-      ap (λ c. listed (read c (diagonal n t)) values) (next-on _ _ (order-passes some order) ∙ next-on _ _ (lengths-pass square room))
+      ap (λ c. diagonalBy c n t values) (next-on _ _ (order-passes some order) ∙ next-on _ _ (lengths-pass square room))
 
   -- so on a T that may be read the reader's answer is given
   pub given-diagonal : Given n t values → diagonalIfReal n t values ≡ realRead n t values
   unfolding realRead realChecks
   given-diagonal g =
-      diagonal-fits (g .some) (g .order) (g .square) (g .room) ∙ sym (ap (λ c. listed (read c (diagonal n t)) values) (next-on _ _ (given-readable g)))
+      diagonal-fits (g .some) (g .order) (g .square) (g .room) ∙ sym (ap (λ c. diagonalBy c n t values) (next-on _ _ (given-readable g)))

@@ -19,14 +19,14 @@ use Rattle.refusal.specs.Refusal.{toldOf, refuse, refuseAt, _next_, ifPassed}
 use Rattle.refusal.specs.Search.{firstRow, firstCol, firstPlace, firstOnDiagonal, notFinite, spoils, firstNotFinite, firstSpoiling}
 use Rattle.refusal.specs.Checks.{orderChecks, lengthCheck, entryChecks, givenChecks}
 use Rattle.eigenvalues.specs.Blocks.{paired, pairOf, answerAt, notComplex, upper, lower, follows, answerBefore, eigenvalueAt}
-use Rattle.eigenvalues.specs.Readers.{Read, ComplexRead, readable, anyPaired, pairCheck, realChecks, diagonal, listed, realLengths, realRead, diagonalIfReal, notFiniteAt, complexChecks, complexLengths, complexRead}
+use Rattle.eigenvalues.specs.Readers.{Read, ComplexRead, shapeCheck, readable, finiteReadable, anyPaired, pairCheck, realChecks, diagonal, listed, realLengths, realRead, realFiniteOf, diagonalIfReal, notFiniteAt, blockChecks, complexChecks, complexLengths, complexRead, complexFiniteOf}
 
 -- every definition that a case computes with
 unfoldable pub openedReaders : Unit {0}
 unfolding opened until firstFrom table isFinite blockAt discriminant toldOf refuse refuseAt _next_ ifPassed
     firstRow firstCol firstPlace firstOnDiagonal notFinite spoils firstNotFinite firstSpoiling orderChecks lengthCheck entryChecks givenChecks
-    paired pairOf answerAt notComplex upper lower follows answerBefore eigenvalueAt readable anyPaired pairCheck realChecks diagonal listed realLengths realRead diagonalIfReal
-    notFiniteAt complexChecks complexLengths complexRead
+    paired pairOf answerAt notComplex upper lower follows answerBefore eigenvalueAt shapeCheck readable finiteReadable anyPaired pairCheck realChecks diagonal listed realLengths realRead
+    realFiniteOf diagonalIfReal notFiniteAt blockChecks complexChecks complexLengths complexRead complexFiniteOf
     sub neg eq
 openedReaders = tt
 
@@ -83,6 +83,17 @@ diagonals : map unlooked triangular ≡ map real triangular
 unfolding openedReaders triangular case lent unlooked real told answerOf
 diagonals = refl
 
+-- nor do the entries alone
+finite : Case → List (List ℕ)
+finite c = told (realFiniteOf (c .order) (numbers (c .matrix)) (lent (c .order)))
+
+complexFinite : Case → List (List ℕ)
+complexFinite c = complexTold (complexFiniteOf (c .order) (numbers (c .matrix)) (lent (c .order)) (lent (c .order)))
+
+finites : map finite triangular ≡ map real triangular
+unfolding openedReaders triangular case lent finite real told answerOf
+finites = refl
+
 -- the complex reader's are the same, with +0 beside each
 singles : map complex triangular
     ≡ ((0 ∷ []) ∷ (0x4014_0000_0000_0000 ∷ []) ∷ (0 ∷ []) ∷ [])
@@ -119,6 +130,10 @@ pairs : map complex blocks
 unfolding openedReaders blocks case lent complex complexTold answerOf
 pairs = refl
 
+finitePairs : map complexFinite blocks ≡ map complex blocks
+unfolding openedReaders blocks case lent complexFinite complex complexTold answerOf
+finitePairs = refl
+
 -- the real reader refuses each, and the list is as it was
 complexOnes : map real blocks ≡ map (λ c. (10 ∷ 0 ∷ 0 ∷ []) ∷ shown (lent (c .order)) ∷ []) blocks
 unfolding openedReaders blocks case lent real told answerOf
@@ -139,6 +154,10 @@ realKept f = f .answer ∷ shown (lent (f .of .order)) ∷ []
 complexKept : Fault → List (List ℕ)
 complexKept f = f .answer ∷ shown (lent (f .of .order)) ∷ shown (lent (f .of .order)) ∷ []
 
+-- two entries that spoil the shape, and an infinity last
+infinite : Case
+infinite = case 3 (0 ∷ 0x3ff0_0000_0000_0000 ∷ 1 ∷ 0 ∷ 0 ∷ 0x3ff0_0000_0000_0000 ∷ 0 ∷ 0 ∷ 0x7ff0_0000_0000_0000 ∷ [])
+
 -- By both: i, orders 0 and 65; too few entries, an infinity among them; h, NaN in row 2 of column 1, and an infinity in row 0 of column 2; an infinity
 -- alone; n; row 2 of column 0 not 0, and so both entries below the diagonal; the same with an infinity last, which is told before the shape.
 faults : List Fault
@@ -150,15 +169,21 @@ faults =
     ∷ fault 1 (0x7ff0_0000_0000_0000 ∷ []) (6 ∷ 0 ∷ 0 ∷ [])
     ∷ fault 3 (0 ∷ 0x3ff0_0000_0000_0000 ∷ 0 ∷ 0 ∷ 0 ∷ 0x3ff0_0000_0000_0000 ∷ 0 ∷ 0 ∷ 0 ∷ []) (9 ∷ 2 ∷ 1 ∷ [])
     ∷ fault 3 (0 ∷ 0x3ff0_0000_0000_0000 ∷ 1 ∷ 0 ∷ 0 ∷ 0x3ff0_0000_0000_0000 ∷ 0 ∷ 0 ∷ 0 ∷ []) (9 ∷ 2 ∷ 0 ∷ [])
-    ∷ fault 3 (0 ∷ 0x3ff0_0000_0000_0000 ∷ 1 ∷ 0 ∷ 0 ∷ 0x3ff0_0000_0000_0000 ∷ 0 ∷ 0 ∷ 0x7ff0_0000_0000_0000 ∷ []) (6 ∷ 2 ∷ 2 ∷ []) ∷ []
+    ∷ record { of = infinite; answer = 6 ∷ 2 ∷ 2 ∷ [] } ∷ []
 
 refused : map (λ f. real (f .of)) faults ≡ map realKept faults
-unfolding openedReaders faults fault case lent real told answerOf realKept
+unfolding openedReaders faults infinite fault case lent real told answerOf realKept
 refused = refl
 
 complexRefused : map (λ f. complex (f .of)) faults ≡ map complexKept faults
-unfolding openedReaders faults fault case lent complex complexTold answerOf complexKept
+unfolding openedReaders faults infinite fault case lent complex complexTold answerOf complexKept
 complexRefused = refl
+
+-- where entries are known to be finite no infinity is looked for, and the shape of that last one is told
+finiteRefused : finite infinite ∷ complexFinite infinite ∷ []
+    ≡ ((9 ∷ 2 ∷ 0 ∷ []) ∷ shown (lent 3) ∷ []) ∷ ((9 ∷ 2 ∷ 0 ∷ []) ∷ shown (lent 3) ∷ shown (lent 3) ∷ []) ∷ []
+unfolding openedReaders infinite case lent finite complexFinite told complexTold answerOf
+finiteRefused = refl
 
 -- By the complex reader alone: a discriminant above 0; one that is NaN, in row 1; an infinite root, the discriminant being -infinity; order 3, half the
 -- trace infinite in row 1.

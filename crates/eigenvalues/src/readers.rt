@@ -4,11 +4,12 @@ ghost use lib.ListN.{length};
 ghost use Prim.Native.Nat.{_*_, _<_, _≤_};
 ghost use Rattle.loops.specs.Table.{table};
 ghost use Rattle.refusal.specs.declared.refusal.Refusal.the-variants.{WrongLength};
+ghost use Rattle.refusal.specs.declared.refusal.Checked.the-variants.{Passed};
 ghost use Rattle.refusal.specs.Refusal.{_next_};
 ghost use Rattle.refusal.specs.Search.{firstOnDiagonal};
 ghost use Rattle.refusal.specs.Checks.{lengthCheck};
 ghost use Rattle.eigenvalues.specs.Blocks.{notComplex, eigenvalueAt};
-ghost use Rattle.eigenvalues.specs.Readers.{readable, anyPaired, pairCheck, diagonal, read, listed, realRead, diagonalIfReal, notFiniteAt, complexChecks, complexly, complexRead};
+ghost use Rattle.eigenvalues.specs.Readers.{shapeCheck, readable, finiteReadable, anyPaired, pairCheck, diagonal, read, diagonalBy, realRead, realFiniteOf, diagonalIfReal, notFiniteAt, blockChecks, complexly, eigenvaluesBy, complexRead, complexFiniteOf};
 ghost use Rattle.eigenvalues.specs.Real.{RealAnswer};
 use crate::block::BlockAnswer;
 use crate::block::answer_at;
@@ -21,15 +22,28 @@ use refusal::Place;
 use refusal::Refusal;
 use refusal::Search;
 
-// What both check, in the order of document 01's table; the lengths of the lent lists have come to `lists`.
-fn readable(t: &[f64], n: usize, lists: Checked) -> Checked
-    ensures { λ r. ⌜ r ≡ readable (lengthCheck WrongLength (length (now (t .entry))) (n * n) next lists) n (now (t .entry)) ⌝ }
+// 9, behind the checks that have come to `checked`.
+fn then_shape(t: &[f64], n: usize, checked: Checked) -> Checked
+    ensures { λ r. ⌜ r ≡ (checked next shapeCheck n (now (t .entry))) ⌝ }
 {
-    let checked = refusal::check_given(t, n, lists);
     let Checked::Passed = checked else {
         return checked;
     };
     refusal::check_shape(t, n)
+}
+
+// What both check, in the order of document 01's table; the lengths of the lent lists have come to `lists`.
+fn readable(t: &[f64], n: usize, lists: Checked) -> Checked
+    ensures { λ r. ⌜ r ≡ readable (lengthCheck WrongLength (length (now (t .entry))) (n * n) next lists) n (now (t .entry)) ⌝ }
+{
+    then_shape(t, n, refusal::check_given(t, n, lists))
+}
+
+// The same for entries that are known to be finite: they are not looked at again.
+fn finite_readable(t: &[f64], n: usize, lists: Checked) -> Checked
+    ensures { λ r. ⌜ r ≡ finiteReadable (lengthCheck WrongLength (length (now (t .entry))) (n * n) next lists) n (now (t .entry)) ⌝ }
+{
+    then_shape(t, n, refusal::check_sizes(n, t.len(), lists))
 }
 
 // Whether some block of two stands.
@@ -60,13 +74,24 @@ fn do_eigenvalues(t: &[f64], n: usize, values: &mut [f64])
 // The diagonal, if no block of two stands: else 10, and `values` is left as it was.
 fn diagonal_of(t: &[f64], n: usize, values: &mut [f64]) -> Checked
     requires { ⌜ (n ≤ 64) × (length (now t) ≡ n * n) × (length (now values) ≡ n) ⌝ }
-    ensures { λ r. ⌜ read r (now (values .exit)) ≡ listed (read (pairCheck n (now (t .entry))) (diagonal n (now (t .entry)))) (now (values .entry)) ⌝ }
+    ensures { λ r. ⌜ read r (now (values .exit)) ≡ diagonalBy (pairCheck n (now (t .entry))) n (now (t .entry)) (now (values .entry)) ⌝ }
 {
     if any_paired(t, n) {
         return Checked::Refused(Refusal::ComplexEigenvalues);
     }
     do_eigenvalues(t, n, values);
     Checked::Passed
+}
+
+// The same behind the checks that have come to `checked`: a refusal leaves `values` as it was.
+fn then_diagonal(t: &[f64], n: usize, values: &mut [f64], checked: Checked) -> Checked
+    requires { ⌜ (checked ≡ Passed → (n ≤ 64) × (length (now t) ≡ n * n) × (length (now values) ≡ n)) ⌝ }
+    ensures { λ r. ⌜ read r (now (values .exit)) ≡ diagonalBy (checked next pairCheck n (now (t .entry))) n (now (t .entry)) (now (values .entry)) ⌝ }
+{
+    let Checked::Passed = checked else {
+        return checked;
+    };
+    diagonal_of(t, n, values)
 }
 
 // The eigenvalues of T, if all are real. A refusal leaves `values` as it was.
@@ -76,10 +101,16 @@ pub fn eigenvalues(t: &[f64], n: usize, values: &mut [f64]) -> Checked
 {
     let list = refusal::check_length(values.len(), n, Refusal::WrongLength);
     let checked = readable(t, n, list);
-    let Checked::Passed = checked else {
-        return checked;
-    };
-    diagonal_of(t, n, values)
+    then_diagonal(t, n, values, checked)
+}
+
+// The same for entries that are known to be finite: they are not looked at again.
+pub fn eigenvalues_of_finite(t: &[f64], n: usize, values: &mut [f64]) -> Checked
+    ensures { λ r. ⌜ read r (now (values .exit)) ≡ realFiniteOf n (now (t .entry)) (now (values .entry)) ⌝ }
+{
+    let list = refusal::check_length(values.len(), n, Refusal::WrongLength);
+    let checked = finite_readable(t, n, list);
+    then_diagonal(t, n, values, checked)
 }
 
 // The same for a T whose entries and shape are known to be right, as an accepted T's are: they are not looked at
@@ -89,10 +120,7 @@ pub fn diagonal_if_real(t: &[f64], n: usize, values: &mut [f64]) -> Checked
 {
     let list = refusal::check_length(values.len(), n, Refusal::WrongLength);
     let checked = refusal::check_sizes(n, t.len(), list);
-    let Checked::Passed = checked else {
-        return checked;
-    };
-    diagonal_of(t, n, values)
+    then_diagonal(t, n, values, checked)
 }
 
 // The first block that is not complex.
@@ -129,21 +157,18 @@ fn first_value_not_finite(t: &[f64], n: usize) -> Search
     Search::Nowhere
 }
 
-// All that the complex reader checks.
-fn complex_checks(t: &[f64], n: usize, lists: Checked) -> Checked
-    ensures { λ r. ⌜ r ≡ complexChecks (lengthCheck WrongLength (length (now (t .entry))) (n * n) next lists) n (now (t .entry)) ⌝ }
+// The complex reader's own checks: 11, and 8 last.
+fn check_blocks(t: &[f64], n: usize) -> Checked
+    requires { ⌜ (n ≤ 64) × (length (now t) ≡ n * n) ⌝ }
+    ensures { λ r. ⌜ r ≡ blockChecks n (now (t .entry)) ⌝ }
 {
-    let checked = readable(t, n, lists);
-    let Checked::Passed = checked else {
-        return checked;
-    };
     if let Search::At(p) = first_not_complex(t, n) {
         return Checked::Refused(Refusal::BlockNotComplex(p));
     }
     if let Search::At(p) = first_value_not_finite(t, n) {
         return Checked::Refused(Refusal::ResultNotFinite(p));
     }
-    checked
+    Checked::Passed
 }
 
 // One for each row.
@@ -173,14 +198,42 @@ fn check_lists(n: usize, re: usize, im: usize) -> Checked
     refusal::check_length(im, n, Refusal::WrongLength)
 }
 
-// The eigenvalues of T, by their real and imaginary parts. A refusal leaves both lists as they were.
-pub fn complex_eigenvalues(t: &[f64], n: usize, re: &mut [f64], im: &mut [f64]) -> Checked
-    ensures { λ r. ⌜ complexly r (now (re .exit)) (now (im .exit)) ≡ complexRead n (now (t .entry)) (now (re .entry)) (now (im .entry)) ⌝ }
+// They are written if those checks pass; else both lists are left as they were.
+fn pairs_of(t: &[f64], n: usize, re: &mut [f64], im: &mut [f64]) -> Checked
+    requires { ⌜ (n ≤ 64) × (length (now t) ≡ n * n) × (length (now re) ≡ n) × (length (now im) ≡ n) ⌝ }
+    ensures { λ r. ⌜ complexly r (now (re .exit)) (now (im .exit)) ≡ eigenvaluesBy (blockChecks n (now (t .entry))) n (now (t .entry)) (now (re .entry)) (now (im .entry)) ⌝ }
 {
-    let checked = complex_checks(t, n, check_lists(n, re.len(), im.len()));
+    let checked = check_blocks(t, n);
     let Checked::Passed = checked else {
         return checked;
     };
     do_complex_eigenvalues(t, n, re, im);
     checked
+}
+
+// The same behind the checks that have come to `checked`.
+fn then_pairs(t: &[f64], n: usize, re: &mut [f64], im: &mut [f64], checked: Checked) -> Checked
+    requires { ⌜ (checked ≡ Passed → (n ≤ 64) × (length (now t) ≡ n * n) × (length (now re) ≡ n) × (length (now im) ≡ n)) ⌝ }
+    ensures { λ r. ⌜ complexly r (now (re .exit)) (now (im .exit)) ≡ eigenvaluesBy (checked next blockChecks n (now (t .entry))) n (now (t .entry)) (now (re .entry)) (now (im .entry)) ⌝ }
+{
+    let Checked::Passed = checked else {
+        return checked;
+    };
+    pairs_of(t, n, re, im)
+}
+
+// The eigenvalues of T, by their real and imaginary parts. A refusal leaves both lists as they were.
+pub fn complex_eigenvalues(t: &[f64], n: usize, re: &mut [f64], im: &mut [f64]) -> Checked
+    ensures { λ r. ⌜ complexly r (now (re .exit)) (now (im .exit)) ≡ complexRead n (now (t .entry)) (now (re .entry)) (now (im .entry)) ⌝ }
+{
+    let checked = readable(t, n, check_lists(n, re.len(), im.len()));
+    then_pairs(t, n, re, im, checked)
+}
+
+// The same for entries that are known to be finite: they are not looked at again.
+pub fn complex_eigenvalues_of_finite(t: &[f64], n: usize, re: &mut [f64], im: &mut [f64]) -> Checked
+    ensures { λ r. ⌜ complexly r (now (re .exit)) (now (im .exit)) ≡ complexFiniteOf n (now (t .entry)) (now (re .entry)) (now (im .entry)) ⌝ }
+{
+    let checked = finite_readable(t, n, check_lists(n, re.len(), im.len()));
+    then_pairs(t, n, re, im, checked)
 }
