@@ -61,7 +61,7 @@ module _ (lengths : Checked) (asked : Setting) (budget : ℕ) (m : List Float) (
       let a = as-run lengths asked budget m p w e in
       elim (ran-tells asked budget (pair m (p .q)) w) [
         | ended k f ↦ (let same : c ≡ count = a .1 ∙ ap passesOf f in (same, omega (arith, k (budgeted (accepted-passed lengths asked budget m p w e)))))
-        | reached _ _ f ↦ absurd (refused-not-passed BudgetReached (sym (ap (λ a. verdict asked a _) f) ∙ a .0))
+        | reached _ _ f ↦ absurd (refused-not-passed BudgetReached (sym (ap (λ a. verdict asked a (ran .pair)) f) ∙ a .0))
       ]
 
   -- what an entry promises of its count
@@ -75,7 +75,7 @@ module _ (lengths : Checked) (asked : Setting) (budget : ℕ) (m : List Float) (
   refused-reached h e =
       let a = as-refused lengths asked budget m p w h e in
       elim (ran-tells asked budget (pair m (p .q)) w) [
-        | ended _ f ↦ absurd (ended-no-budget asked _ (sym (ap (λ a. verdict asked a _) f) ∙ a .0))
+        | ended _ f ↦ absurd (ended-no-budget asked _ (sym (ap (λ a. verdict asked a (ran .pair)) f) ∙ a .0))
         | reached _ k _ ↦ k
       ]
 

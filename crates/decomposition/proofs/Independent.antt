@@ -14,6 +14,7 @@ use Rattle.pass.specs.Setting.{wanting}
 use Rattle.pass.specs.Pair.{Pair, pair}
 use Rattle.schur.specs.declared.run.Ran.{Ran}
 use Rattle.schur.specs.declared.run.Ran.the-variants.{Ended, BudgetReached, Unfit}
+use Rattle.schur.specs.Run.{ranOf}
 use Rattle.schur.proofs.Independent.{ranOf-same}
 use Rattle.decomposition.specs.declared.Decomposed.the-variants.{Accepted}
 use Rattle.decomposition.specs.Checks.{allLengths, argumentChecks, resultChecks}
@@ -81,7 +82,9 @@ module _ (asked : Setting) (budget : ℕ) (m t q q' w : List Float) where
   accepted-without e =
       let x = as-run _ (with asked) budget m (pair t q) w e in
       let same = ranOf-same true false asked budget m q q' w in
-      let told = ap (λ a. verdict (without asked) a _) (sym (same .answer)) ∙ verdict-without asked _ _ _ (same .t) (x .0) in
+      let here = ranOf (with asked) budget (pair m q) w in
+      let there = ranOf (without asked) budget (pair m q') w in
+      let told = ap (λ a. verdict (without asked) a (there .pair)) (sym (same .answer)) ∙ verdict-without asked (here .answer) (here .pair) (there .pair) (same .t) (x .0) in
       let other =
       accepted-run _ (without asked) budget m (pair t q') w (checks-without (accepted-passed _ (with asked) budget m (pair t q) w e)) told
       ∙ ap (λ a. Accepted (passesOf a)) (sym (same .answer)) ∙ sym (ap Accepted (x .1)) in

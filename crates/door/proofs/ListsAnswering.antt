@@ -12,6 +12,7 @@ use Rattle.refusal.proofs.Checking.{next-passes}
 use Rattle.refusal.proofs.Passing.{order-passes, length-passes}
 use Rattle.eigenvalues.specs.Readers.{realLengths, complexLengths, realRead, complexRead}
 use Rattle.eigenvalues.specs.Readers.{listed as listedFloats}
+use Rattle.eigenvalues.proofs.Finite.{real-finite, complex-finite}
 use Rattle.plain.specs.Plain.{plainLengths, plainBegun, plainFiniteOf}
 use Rattle.words.specs.Floats.{floatsOf, bytesOf, zeros}
 use Rattle.words.proofs.Between.{zeros-length, floats-length}
@@ -20,7 +21,7 @@ use Rattle.door.specs.declared.lists.ListEntry.the-variants.{Real, Compl
 use Rattle.door.specs.Answer.{checkedNumber}
 use Rattle.door.specs.Inner.{secondSize, evaluated, evaluatedBy, secondWritten}
 use Rattle.door.specs.Lists.{secondLength, listLengths, listChecks, complexListed, realBytes, complexBytes, plainFrom, plainBytes, listsBytes}
-use Rattle.door.proofs.ListsPassing.{list-fit}
+use Rattle.door.proofs.ListsPassing.{list-fit, list-entries}
 
 -- what is written where all checks have passed: of a list that was read then
 written : (c : Checked) (x y : List Float) (z : List ℕ) → ifPassed c (bytesOf (ifPassed c x y)) z ≡ ifPassed c (bytesOf x) z
@@ -55,11 +56,13 @@ unfolding listsBytes realBytes complexBytes plainBytes plainFrom evaluatedBy rea
 read Real n m re im re' im' x x' y y' c answer passed list zero run left-re left-im told =
     let f = list-fit Real n m (length re) (length im) passed in
     let size = real-sized n (floats-length m (n * n) (f .matrix)) list in
-    rw (told, left-re, left-im, ap (λ r. r .x) run, ap (λ r. r .answer) run, size, f .lent, written)
+    let whole = run ∙ ap (λ r. evaluated (r .answer) (r .values) y) (real-finite n (floatsOf m) x (list-entries Real n m (length re) (length im) passed)) in
+    rw (told, left-re, left-im, ap (λ r. r .x) whole, ap (λ r. r .answer) whole, size, f .lent, written)
 read Complex n m re im re' im' x x' y y' c answer passed list zero run left-re left-im told =
     let f = list-fit Complex n m (length re) (length im) passed in
     let size = complex-sized n (floats-length m (n * n) (f .matrix)) list (ap length zero ∙ zeros-length n) in
-    rw (told, left-re, left-im, ap (λ r. r .x) run, ap (λ r. r .y) run, ap (λ r. r .answer) run, size, f .lent) (simp written)
+    let whole = run ∙ ap (λ r. evaluated (r .answer) (r .re) (r .im)) (complex-finite n (floatsOf m) x y (list-entries Complex n m (length re) (length im) passed)) in
+    rw (told, left-re, left-im, ap (λ r. r .x) whole, ap (λ r. r .y) whole, ap (λ r. r .answer) whole, size, f .lent) (simp written)
 read Plain n m re im re' im' x x' y y' c answer passed list zero run left-re left-im told =
     let f = list-fit Plain n m (length re) (length im) passed in
     let size = plain-sized n (f .some) (f .order) (floats-length m (n * n) (f .matrix)) list (ap length zero ∙ zeros-length (2 * n)) in

@@ -8,8 +8,9 @@ use Rattle.refusal.specs.declared.refusal.Refusal.{Refusal}
 use Rattle.refusal.specs.declared.refusal.Checked.{Checked}
 use Rattle.refusal.specs.declared.refusal.Checked.the-variants.{Passed, Refused}
 use Rattle.refusal.specs.Refusal.{ifPassed}
+use Rattle.refusal.specs.Checks.{entryChecks}
 use Rattle.refusal.proofs.Checking.{next-passed, next-refused}
-use Rattle.refusal.proofs.Passing.{length-passed, given-passed}
+use Rattle.refusal.proofs.Passing.{length-passed, entries-passes, given-passed}
 use Rattle.eigenvalues.specs.Readers.{readable, realChecks, complexChecks}
 use Rattle.words.specs.Floats.{floatsOf}
 use Rattle.door.specs.declared.lists.ListEntry.{ListEntry}
@@ -43,6 +44,11 @@ list-fit e n m rn jn h =
       list = length-passed _ rn _ (b .0);
       second = b .1;
     }
+
+-- and the entries
+pub list-entries : (e : ListEntry) (n : ℕ) (m : List ℕ) (rn jn : ℕ) → listChecks e n m rn jn ≡ Passed → entryChecks n (floatsOf m) ≡ Passed
+unfolding listChecks
+list-entries e n m rn jn h = entries-passes n (floatsOf m) (given-passed _ n (floatsOf m) h .entries)
 
 -- the complex reader's second list
 pub complex-second : (n jn : ℕ) → secondLength Complex n jn ≡ Passed → jn ≡ 8 * n

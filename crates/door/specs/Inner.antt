@@ -4,7 +4,7 @@ use mathlib.Core.List.{List}
 use lib.Ieee.{Float}
 use Rattle.refusal.specs.declared.refusal.Checked.{Checked}
 use Rattle.refusal.specs.Refusal.{ifPassed}
-use Rattle.eigenvalues.specs.Readers.{realRead, complexRead}
+use Rattle.eigenvalues.specs.Readers.{realFiniteOf, complexFiniteOf}
 use Rattle.plain.specs.Plain.{plainFiniteOf}
 use Rattle.words.specs.Floats.{bytesOf}
 use Rattle.door.specs.declared.lists.ListEntry.{ListEntry}
@@ -26,8 +26,8 @@ abbrev pub evaluated : Checked → (x y : List Float) → Evaluated
 evaluated answer x y = record { answer = answer; x = x; y = y }
 
 unfoldable pub evaluatedBy : ListEntry → (n : ℕ) → (a x y : List Float) → Evaluated
-evaluatedBy Real n a x y = let r = realRead n a x in evaluated (r .answer) (r .values) y
-evaluatedBy Complex n a x y = let r = complexRead n a x y in evaluated (r .answer) (r .re) (r .im)
+evaluatedBy Real n a x y = let r = realFiniteOf n a x in evaluated (r .answer) (r .values) y
+evaluatedBy Complex n a x y = let r = complexFiniteOf n a x y in evaluated (r .answer) (r .re) (r .im)
 evaluatedBy Plain n a x y = let r = plainFiniteOf n a x y in evaluated (r .answer) (r .values) (r .work)
 
 -- the second list's bytes: the complex reader's alone

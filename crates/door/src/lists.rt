@@ -71,14 +71,15 @@ fn check_arguments(c: ListCall, m: &[u8], rn: usize, jn: usize) -> Checked
     check_entries(m, c.order)
 }
 
-// Of the floats: a is T or the matrix, x is for the list, y for the imaginary parts or the workspace.
+// Of the floats, whose patterns were looked at: a is T or the matrix, x is for the list, y for the imaginary
+// parts or the workspace.
 fn evaluate(c: ListCall, a: &mut [f64], x: &mut [f64], y: &mut [f64]) -> Checked
     ensures { λ r. ⌜ evaluated r (now (x .exit)) (now (y .exit)) ≡ evaluatedBy (c .entry) (c .order) (now (a .entry)) (now (x .entry)) (now (y .entry)) ⌝ }
 {
     let entry = c.entry;
     match entry {
-        ListEntry::Real => eigenvalues::eigenvalues(a, c.order, x),
-        ListEntry::Complex => eigenvalues::complex_eigenvalues(a, c.order, x, y),
+        ListEntry::Real => eigenvalues::eigenvalues_of_finite(a, c.order, x),
+        ListEntry::Complex => eigenvalues::complex_eigenvalues_of_finite(a, c.order, x, y),
         ListEntry::Plain => plain::plain_eigenvalues_of_finite(a, c.order, x, y),
     }
 }

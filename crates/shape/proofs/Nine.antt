@@ -87,7 +87,7 @@ module _ (lengths : Checked) (asked : Setting) (budget : ℕ) (m : List Float) (
   no-nine h none e =
       let a = as-refused lengths asked budget m p w h e in
       elim (ran-tells asked budget (pair m (p .q)) w) [
-        | ended _ f ↦ not-nine asked (ran .pair) (run-shape h none f) (sym (ap (λ a. verdict asked a _) f) ∙ a .0)
+        | ended _ f ↦ not-nine asked (ran .pair) (run-shape h none f) (sym (ap (λ a. verdict asked a (ran .pair)) f) ∙ a .0)
         | reached _ _ f ↦ (let other = sym (ap (λ a. verdict asked a (ran .pair)) f) ∙ a .0 in let z : _≡_ {A = ℕ} 0 1 = cc in omega arith)
       ]
 

@@ -11,13 +11,13 @@ returns c =
     let came = c .before .before in
     let told = came .before .before .before in
     let x = told .before .before .before .before .before .args in
-    rw (told .enum-told .given .1) (ap (λ r. evaluated (r .answer) (r .values) (x .y .now)) (came .eigenvalues .ensures .0))
+    rw (told .enum-told .given .1) (ap (λ r. evaluated (r .answer) (r .values) (x .y .now)) (came .eigenvalues-of-finite .ensures))
 
 returns-2 : tie.Need-returns-2
 unfolding evaluatedBy
 returns-2 c =
     let came = c .before .before .before .before in
-    rw (came .before .before .before .before .enum-told2 .given .1) (ap (λ r. evaluated (r .answer) (r .re) (r .im)) (came .complex-eigenvalues .ensures))
+    rw (came .before .before .before .before .enum-told2 .given .1) (ap (λ r. evaluated (r .answer) (r .re) (r .im)) (came .complex-eigenvalues-of-finite .ensures))
 
 returns-3 : tie.Need-returns-3
 unfolding evaluatedBy
