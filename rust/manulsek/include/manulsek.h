@@ -10,7 +10,7 @@
  * how a double stands in memory on x86-64: lend (uint8_t *)doubles. Lengths are in bytes, and have to be
  * 8 * n * n for a matrix and 8 * n for a list. No address has to be a multiple of anything. Memory that
  * is written must overlap no other. The functions keep nothing, and may be called from many threads;
- * each needs up to 108 KiB of stack.
+ * each needs up to 72 KiB of stack.
  *
  * Every function takes every input and ends. It answers one number: below 2^32 the call was accepted;
  * else it was refused, and the answer is number * 2^32 + row * 2^16 + col. The four helpers at the end
