@@ -56,7 +56,8 @@ fn asked(c: Call, wanted: bool) -> Setting
 }
 
 pub fn run(c: Call, m: &[f64], x: &mut [f64], y: &mut [f64], z: &mut [f64]) -> Told
-    ensures { λ r. ⌜ came r (now (x .exit)) (now (y .exit)) (now (z .exit)) ≡ callOf c (now (m .entry)) (now (x .entry)) (now (y .entry)) (now (z .entry)) ⌝ }
+    ensures { λ r. ⌜ came r (now (x .exit)) (now (y .exit)) (now (z .exit))
+        ≡ callOf c (now (m .entry)) (now (x .entry)) (now (y .entry)) (now (z .entry)) ⌝ }
 {
     if c.entry == 1 {
         return decomposed(decomposition::try_new(m, asked(c, true), c.budget, x, y, z));

@@ -29,7 +29,8 @@ outcome answer p w = record { answer = answer; pair = p; work = w }
 
 -- ---- after a run
 
--- The budget was reached: 7. Else T and Q are looked at. That an argument does not fit is never met here, since the lengths were checked before.
+-- The budget was reached: 7. Else T and Q are looked at. That an argument does not fit is never met here, since the
+-- lengths were checked before.
 unfoldable pub verdict : Setting → Ran → Pair → Checked
 verdict asked (Ended passes) p = resultChecks asked p
 verdict asked (BudgetReached window) p = Refused refusal.BudgetReached
@@ -71,8 +72,10 @@ unfoldable pub begun : Checked → Outcome → Pair → (w : List Float) → Out
 begun Passed ran p w = ran
 begun (Refused r) ran p w = outcome (Declined r) p w
 
--- Any entry: `lengths` are the checks of all that is lent, m is the matrix, p is what is lent for T and Q, and w the workspace.
-unfoldable pub entryOf : (lengths : Checked) → Setting → (budget : ℕ) → (m : List Float) → Pair → (w : List Float) → Outcome
+-- Any entry: `lengths` are the checks of all that is lent, m is the matrix, p is what is lent for T and Q, and w the
+-- workspace.
+unfoldable pub entryOf : (lengths : Checked) → Setting → (budget : ℕ) → (m : List Float) → Pair → (w : List Float)
+    → Outcome
 entryOf lengths asked budget m p w = begun (argumentChecks lengths asked budget m) (judged asked (ranOf asked budget (pair m (p .q)) w) w) p w
 
 abbrev pub decompositionOf : Setting → (budget : ℕ) → (m : List Float) → Pair → (w : List Float) → Outcome

@@ -89,7 +89,8 @@ fn check_arguments(
     qn: usize,
     wn: usize,
 ) -> Checked
-    ensures { λ r. ⌜ r ≡ argumentChecks (allLengths asked (length (now (m .entry))) tn qn wn) asked budget (now (m .entry)) ⌝ }
+    ensures { λ r. ⌜ r
+        ≡ argumentChecks (allLengths asked (length (now (m .entry))) tn qn wn) asked budget (now (m .entry)) ⌝ }
 {
     let order = refusal::check_order(asked.order);
     let Checked::Passed = order else {
@@ -104,7 +105,8 @@ fn check_arguments(
 
 // The same where T holds the matrix.
 fn check_placed(t: &[f64], asked: Setting, budget: u64, qn: usize, wn: usize) -> Checked
-    ensures { λ r. ⌜ r ≡ argumentChecks (placedLengths asked (length (now (t .entry))) qn wn) asked budget (now (t .entry)) ⌝ }
+    ensures { λ r. ⌜ r
+        ≡ argumentChecks (placedLengths asked (length (now (t .entry))) qn wn) asked budget (now (t .entry)) ⌝ }
 {
     let order = refusal::check_order(asked.order);
     let Checked::Passed = order else {
@@ -175,7 +177,8 @@ fn spoil(t: &mut [f64], q: &mut [f64], asked: Setting)
 
 // Answered as it was judged.
 fn settle(checked: Checked, passes: u64, t: &mut [f64], q: &mut [f64], asked: Setting) -> Decomposed
-    ensures { λ r. ⌜ settlement r (pair (now (t .exit)) (now (q .exit))) ≡ settled asked passes checked (pair (now (t .entry)) (now (q .entry))) ⌝ }
+    ensures { λ r. ⌜ settlement r (pair (now (t .exit)) (now (q .exit)))
+        ≡ settled asked passes checked (pair (now (t .entry)) (now (q .entry))) ⌝ }
 {
     match checked {
         Checked::Passed => Decomposed::Accepted(passes),
@@ -189,7 +192,8 @@ fn settle(checked: Checked, passes: u64, t: &mut [f64], q: &mut [f64], asked: Se
 // What is answered to a run that answered so, and left this T and Q: for those who have checked its arguments
 // and made it themselves. Refused, T and Q are NaN throughout.
 pub fn decide(ran: Ran, t: &mut [f64], q: &mut [f64], asked: Setting) -> Decomposed
-    ensures { λ r. ⌜ settlement r (pair (now (t .exit)) (now (q .exit))) ≡ decided asked ran (pair (now (t .entry)) (now (q .entry))) ⌝ }
+    ensures { λ r. ⌜ settlement r (pair (now (t .exit)) (now (q .exit)))
+        ≡ decided asked ran (pair (now (t .entry)) (now (q .entry))) ⌝ }
 {
     let checked = judge(ran, t, q, asked);
     settle(checked, passes_of(ran), t, q, asked)

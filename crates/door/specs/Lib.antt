@@ -1,5 +1,6 @@
--- The door: the library over numbers and byte slices. `Answer`: an answer as one number; `Matrices`: the decomposition, what it answers and the bytes that it leaves;
--- `Lists`: the same of the readers and of the plain entry. `Inner` serves the contracts of private functions alone.
+-- The door: the library over numbers and byte slices. `Answer`: an answer as one number; `Matrices`: the
+-- decomposition, what it answers and the bytes that it leaves; `Lists`: the same of the readers and of the plain
+-- entry. `Inner` serves the contracts of private functions alone.
 pub mod Answer
 pub mod Matrices
 pub mod Lists

@@ -1,5 +1,6 @@
--- The entries that give lists of eigenvalues, over bytes: the two readers of a T, and the plain entry of a matrix. What each answers, and the bytes that it leaves, are
--- the library's definitions on the floats whose patterns are lent; lengths are those of the bytes. A refusal leaves every lent byte as it was.
+-- The entries that give lists of eigenvalues, over bytes: the two readers of a T, and the plain entry of a matrix.
+-- What each answers, and the bytes that it leaves, are the library's definitions on the floats whose patterns are
+-- lent; lengths are those of the bytes. A refusal leaves every lent byte as it was.
 use Prim.Native.Nat.{ℕ, _*_}
 use mathlib.Core.List.{List}
 use lib.ListN.{length}

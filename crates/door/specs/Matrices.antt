@@ -1,5 +1,6 @@
--- The decomposition over bytes: what it answers, and the bytes that it leaves. It is the library's definition on the floats whose patterns are lent; lengths are
--- those of the bytes. A refusal before the run leaves every lent byte as it was; what is written is the pattern of a float, 7FF8000000000000 for NaN.
+-- The decomposition over bytes: what it answers, and the bytes that it leaves. It is the library's definition on the
+-- floats whose patterns are lent; lengths are those of the bytes. A refusal before the run leaves every lent byte as
+-- it was; what is written is the pattern of a float, 7FF8000000000000 for NaN.
 use Prim.Native.Nat.{ℕ, _*_}
 use mathlib.Core.Bool.{Bool, cond}
 use mathlib.Core.List.{List}

@@ -76,7 +76,8 @@ pub extern "C" fn manulsek_complex_eigenvalues(
     re: &mut [u8],
     im: &mut [u8],
 ) -> u64
-    ensures { λ r. ⌜ complexListed r (now (re .exit)) (now (im .exit)) ≡ complexBytes n (now (t .entry)) (now (re .entry)) (now (im .entry)) ⌝ }
+    ensures { λ r. ⌜ complexListed r (now (re .exit)) (now (im .exit))
+        ≡ complexBytes n (now (t .entry)) (now (re .entry)) (now (im .entry)) ⌝ }
 {
     let call = ListCall {
         entry: ListEntry::Complex,

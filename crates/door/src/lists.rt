@@ -74,7 +74,8 @@ fn check_arguments(c: ListCall, m: &[u8], rn: usize, jn: usize) -> Checked
 // Of the floats, whose patterns were looked at: a is T or the matrix, x is for the list, y for the imaginary
 // parts or the workspace.
 fn evaluate(c: ListCall, a: &mut [f64], x: &mut [f64], y: &mut [f64]) -> Checked
-    ensures { λ r. ⌜ evaluated r (now (x .exit)) (now (y .exit)) ≡ evaluatedBy (c .entry) (c .order) (now (a .entry)) (now (x .entry)) (now (y .entry)) ⌝ }
+    ensures { λ r. ⌜ evaluated r (now (x .exit)) (now (y .exit))
+        ≡ evaluatedBy (c .entry) (c .order) (now (a .entry)) (now (x .entry)) (now (y .entry)) ⌝ }
 {
     let entry = c.entry;
     match entry {
@@ -119,7 +120,8 @@ fn on_floats(
 ) -> u64
     requires { ⌜ (listChecks (c .entry) (c .order) (now m) (length (now re)) (length (now im)) ≡ Passed)
         × (length (now a) ≡ c .order * c .order) × (length (now x) ≡ c .order) × (now y ≡ zeros (secondSize (c .entry) (c .order))) ⌝ }
-    ensures { λ r. ⌜ complexListed r (now (re .exit)) (now (im .exit)) ≡ listsBytes (c .entry) (c .order) (now (m .entry)) (now (re .entry)) (now (im .entry)) ⌝ }
+    ensures { λ r. ⌜ complexListed r (now (re .exit)) (now (im .exit))
+        ≡ listsBytes (c .entry) (c .order) (now (m .entry)) (now (re .entry)) (now (im .entry)) ⌝ }
 {
     words::decode(m, a);
     let checked = evaluate(c, a, x, y);
@@ -143,8 +145,10 @@ fn second_size(entry: ListEntry, n: usize) -> usize
 
 // Small orders do not pay for clearing a large room.
 fn small(c: ListCall, m: &[u8], re: &mut [u8], im: &mut [u8]) -> u64
-    requires { ⌜ (c .order ≤ 8) × (c .order * c .order ≤ 64) × (listChecks (c .entry) (c .order) (now m) (length (now re)) (length (now im)) ≡ Passed) ⌝ }
-    ensures { λ r. ⌜ complexListed r (now (re .exit)) (now (im .exit)) ≡ listsBytes (c .entry) (c .order) (now (m .entry)) (now (re .entry)) (now (im .entry)) ⌝ }
+    requires { ⌜ (c .order ≤ 8) × (c .order * c .order ≤ 64)
+        × (listChecks (c .entry) (c .order) (now m) (length (now re)) (length (now im)) ≡ Passed) ⌝ }
+    ensures { λ r. ⌜ complexListed r (now (re .exit)) (now (im .exit))
+        ≡ listsBytes (c .entry) (c .order) (now (m .entry)) (now (re .entry)) (now (im .entry)) ⌝ }
 {
     let n = c.order;
     let k = n * n;
@@ -157,8 +161,10 @@ fn small(c: ListCall, m: &[u8], re: &mut [u8], im: &mut [u8]) -> u64
 }
 
 fn middle(c: ListCall, m: &[u8], re: &mut [u8], im: &mut [u8]) -> u64
-    requires { ⌜ (c .order ≤ 32) × (c .order * c .order ≤ 1024) × (listChecks (c .entry) (c .order) (now m) (length (now re)) (length (now im)) ≡ Passed) ⌝ }
-    ensures { λ r. ⌜ complexListed r (now (re .exit)) (now (im .exit)) ≡ listsBytes (c .entry) (c .order) (now (m .entry)) (now (re .entry)) (now (im .entry)) ⌝ }
+    requires { ⌜ (c .order ≤ 32) × (c .order * c .order ≤ 1024)
+        × (listChecks (c .entry) (c .order) (now m) (length (now re)) (length (now im)) ≡ Passed) ⌝ }
+    ensures { λ r. ⌜ complexListed r (now (re .exit)) (now (im .exit))
+        ≡ listsBytes (c .entry) (c .order) (now (m .entry)) (now (re .entry)) (now (im .entry)) ⌝ }
 {
     let n = c.order;
     let k = n * n;
@@ -171,8 +177,10 @@ fn middle(c: ListCall, m: &[u8], re: &mut [u8], im: &mut [u8]) -> u64
 }
 
 fn large(c: ListCall, m: &[u8], re: &mut [u8], im: &mut [u8]) -> u64
-    requires { ⌜ (c .order ≤ 64) × (c .order * c .order ≤ 4096) × (listChecks (c .entry) (c .order) (now m) (length (now re)) (length (now im)) ≡ Passed) ⌝ }
-    ensures { λ r. ⌜ complexListed r (now (re .exit)) (now (im .exit)) ≡ listsBytes (c .entry) (c .order) (now (m .entry)) (now (re .entry)) (now (im .entry)) ⌝ }
+    requires { ⌜ (c .order ≤ 64) × (c .order * c .order ≤ 4096)
+        × (listChecks (c .entry) (c .order) (now m) (length (now re)) (length (now im)) ≡ Passed) ⌝ }
+    ensures { λ r. ⌜ complexListed r (now (re .exit)) (now (im .exit))
+        ≡ listsBytes (c .entry) (c .order) (now (m .entry)) (now (re .entry)) (now (im .entry)) ⌝ }
 {
     let n = c.order;
     let k = n * n;
@@ -187,7 +195,8 @@ fn large(c: ListCall, m: &[u8], re: &mut [u8], im: &mut [u8]) -> u64
 // The first checks have passed. For orders above 8.
 fn larger(c: ListCall, m: &[u8], re: &mut [u8], im: &mut [u8]) -> u64
     requires { ⌜ listChecks (c .entry) (c .order) (now m) (length (now re)) (length (now im)) ≡ Passed ⌝ }
-    ensures { λ r. ⌜ complexListed r (now (re .exit)) (now (im .exit)) ≡ listsBytes (c .entry) (c .order) (now (m .entry)) (now (re .entry)) (now (im .entry)) ⌝ }
+    ensures { λ r. ⌜ complexListed r (now (re .exit)) (now (im .exit))
+        ≡ listsBytes (c .entry) (c .order) (now (m .entry)) (now (re .entry)) (now (im .entry)) ⌝ }
 {
     if c.order <= 32 {
         return middle(c, m, re, im);
@@ -198,7 +207,8 @@ fn larger(c: ListCall, m: &[u8], re: &mut [u8], im: &mut [u8]) -> u64
 // The first checks have passed.
 fn run(c: ListCall, m: &[u8], re: &mut [u8], im: &mut [u8]) -> u64
     requires { ⌜ listChecks (c .entry) (c .order) (now m) (length (now re)) (length (now im)) ≡ Passed ⌝ }
-    ensures { λ r. ⌜ complexListed r (now (re .exit)) (now (im .exit)) ≡ listsBytes (c .entry) (c .order) (now (m .entry)) (now (re .entry)) (now (im .entry)) ⌝ }
+    ensures { λ r. ⌜ complexListed r (now (re .exit)) (now (im .exit))
+        ≡ listsBytes (c .entry) (c .order) (now (m .entry)) (now (re .entry)) (now (im .entry)) ⌝ }
 {
     if c.order <= 8 {
         return small(c, m, re, im);
@@ -239,7 +249,8 @@ fn run(c: ListCall, m: &[u8], re: &mut [u8], im: &mut [u8]) -> u64
 
 // Any call: 0, or a refusal.
 pub(crate) fn call(c: ListCall, m: &[u8], re: &mut [u8], im: &mut [u8]) -> u64
-    ensures { λ r. ⌜ complexListed r (now (re .exit)) (now (im .exit)) ≡ listsBytes (c .entry) (c .order) (now (m .entry)) (now (re .entry)) (now (im .entry)) ⌝ }
+    ensures { λ r. ⌜ complexListed r (now (re .exit)) (now (im .exit))
+        ≡ listsBytes (c .entry) (c .order) (now (m .entry)) (now (re .entry)) (now (im .entry)) ⌝ }
 {
     match check_arguments(c, m, re.len(), im.len()) {
         Checked::Refused(r) => refusal_number(r),

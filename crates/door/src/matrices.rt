@@ -113,7 +113,8 @@ fn on_floats(
 
 // Small orders do not pay for clearing a large room.
 fn small(r: Request, m: &[u8], t: &mut [u8], q: &mut [u8]) -> u64
-    requires { ⌜ (r .order ≤ 8) × (r .order * r .order ≤ 64) × (matrixChecks r (now m) (length (now t)) (length (now q)) ≡ Passed) ⌝ }
+    requires { ⌜ (r .order ≤ 8) × (r .order * r .order ≤ 64)
+        × (matrixChecks r (now m) (length (now t)) (length (now q)) ≡ Passed) ⌝ }
     ensures { λ x. ⌜ matrices x (now (t .exit)) (now (q .exit)) ≡ ranBytes r (now (m .entry)) (now (q .entry)) ⌝ }
 {
     let n = r.order;
@@ -127,7 +128,8 @@ fn small(r: Request, m: &[u8], t: &mut [u8], q: &mut [u8]) -> u64
 // From here on a room is 72 numbers longer than it need be, so that T and Q do not lie a whole number of pages
 // apart, which took longer (docs/SPEED.md).
 fn modest(r: Request, m: &[u8], t: &mut [u8], q: &mut [u8]) -> u64
-    requires { ⌜ (r .order ≤ 16) × (r .order * r .order ≤ 256) × (matrixChecks r (now m) (length (now t)) (length (now q)) ≡ Passed) ⌝ }
+    requires { ⌜ (r .order ≤ 16) × (r .order * r .order ≤ 256)
+        × (matrixChecks r (now m) (length (now t)) (length (now q)) ≡ Passed) ⌝ }
     ensures { λ x. ⌜ matrices x (now (t .exit)) (now (q .exit)) ≡ ranBytes r (now (m .entry)) (now (q .entry)) ⌝ }
 {
     let n = r.order;
@@ -139,7 +141,8 @@ fn modest(r: Request, m: &[u8], t: &mut [u8], q: &mut [u8]) -> u64
 }
 
 fn middle(r: Request, m: &[u8], t: &mut [u8], q: &mut [u8]) -> u64
-    requires { ⌜ (r .order ≤ 32) × (r .order * r .order ≤ 1024) × (matrixChecks r (now m) (length (now t)) (length (now q)) ≡ Passed) ⌝ }
+    requires { ⌜ (r .order ≤ 32) × (r .order * r .order ≤ 1024)
+        × (matrixChecks r (now m) (length (now t)) (length (now q)) ≡ Passed) ⌝ }
     ensures { λ x. ⌜ matrices x (now (t .exit)) (now (q .exit)) ≡ ranBytes r (now (m .entry)) (now (q .entry)) ⌝ }
 {
     let n = r.order;
@@ -151,7 +154,8 @@ fn middle(r: Request, m: &[u8], t: &mut [u8], q: &mut [u8]) -> u64
 }
 
 fn large(r: Request, m: &[u8], t: &mut [u8], q: &mut [u8]) -> u64
-    requires { ⌜ (r .order ≤ 64) × (r .order * r .order ≤ 4096) × (matrixChecks r (now m) (length (now t)) (length (now q)) ≡ Passed) ⌝ }
+    requires { ⌜ (r .order ≤ 64) × (r .order * r .order ≤ 4096)
+        × (matrixChecks r (now m) (length (now t)) (length (now q)) ≡ Passed) ⌝ }
     ensures { λ x. ⌜ matrices x (now (t .exit)) (now (q .exit)) ≡ ranBytes r (now (m .entry)) (now (q .entry)) ⌝ }
 {
     let n = r.order;

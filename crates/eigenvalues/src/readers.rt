@@ -34,14 +34,16 @@ fn then_shape(t: &[f64], n: usize, checked: Checked) -> Checked
 
 // What both check, in the order of document 01's table; the lengths of the lent lists have come to `lists`.
 fn readable(t: &[f64], n: usize, lists: Checked) -> Checked
-    ensures { λ r. ⌜ r ≡ readable (lengthCheck WrongLength (length (now (t .entry))) (n * n) next lists) n (now (t .entry)) ⌝ }
+    ensures { λ r. ⌜ r
+        ≡ readable (lengthCheck WrongLength (length (now (t .entry))) (n * n) next lists) n (now (t .entry)) ⌝ }
 {
     then_shape(t, n, refusal::check_given(t, n, lists))
 }
 
 // The same for entries that are known to be finite: they are not looked at again.
 fn finite_readable(t: &[f64], n: usize, lists: Checked) -> Checked
-    ensures { λ r. ⌜ r ≡ finiteReadable (lengthCheck WrongLength (length (now (t .entry))) (n * n) next lists) n (now (t .entry)) ⌝ }
+    ensures { λ r. ⌜ r
+        ≡ finiteReadable (lengthCheck WrongLength (length (now (t .entry))) (n * n) next lists) n (now (t .entry)) ⌝ }
 {
     then_shape(t, n, refusal::check_sizes(n, t.len(), lists))
 }
@@ -74,7 +76,8 @@ fn do_eigenvalues(t: &[f64], n: usize, values: &mut [f64])
 // The diagonal, if no block of two stands: else 10, and `values` is left as it was.
 fn diagonal_of(t: &[f64], n: usize, values: &mut [f64]) -> Checked
     requires { ⌜ (n ≤ 64) × (length (now t) ≡ n * n) × (length (now values) ≡ n) ⌝ }
-    ensures { λ r. ⌜ read r (now (values .exit)) ≡ diagonalBy (pairCheck n (now (t .entry))) n (now (t .entry)) (now (values .entry)) ⌝ }
+    ensures { λ r. ⌜ read r (now (values .exit))
+        ≡ diagonalBy (pairCheck n (now (t .entry))) n (now (t .entry)) (now (values .entry)) ⌝ }
 {
     if any_paired(t, n) {
         return Checked::Refused(Refusal::ComplexEigenvalues);
@@ -86,7 +89,8 @@ fn diagonal_of(t: &[f64], n: usize, values: &mut [f64]) -> Checked
 // The same behind the checks that have come to `checked`: a refusal leaves `values` as it was.
 fn then_diagonal(t: &[f64], n: usize, values: &mut [f64], checked: Checked) -> Checked
     requires { ⌜ (checked ≡ Passed → (n ≤ 64) × (length (now t) ≡ n * n) × (length (now values) ≡ n)) ⌝ }
-    ensures { λ r. ⌜ read r (now (values .exit)) ≡ diagonalBy (checked next pairCheck n (now (t .entry))) n (now (t .entry)) (now (values .entry)) ⌝ }
+    ensures { λ r. ⌜ read r (now (values .exit))
+        ≡ diagonalBy (checked next pairCheck n (now (t .entry))) n (now (t .entry)) (now (values .entry)) ⌝ }
 {
     let Checked::Passed = checked else {
         return checked;
@@ -201,7 +205,8 @@ fn check_lists(n: usize, re: usize, im: usize) -> Checked
 // They are written if those checks pass; else both lists are left as they were.
 fn pairs_of(t: &[f64], n: usize, re: &mut [f64], im: &mut [f64]) -> Checked
     requires { ⌜ (n ≤ 64) × (length (now t) ≡ n * n) × (length (now re) ≡ n) × (length (now im) ≡ n) ⌝ }
-    ensures { λ r. ⌜ complexly r (now (re .exit)) (now (im .exit)) ≡ eigenvaluesBy (blockChecks n (now (t .entry))) n (now (t .entry)) (now (re .entry)) (now (im .entry)) ⌝ }
+    ensures { λ r. ⌜ complexly r (now (re .exit)) (now (im .exit))
+        ≡ eigenvaluesBy (blockChecks n (now (t .entry))) n (now (t .entry)) (now (re .entry)) (now (im .entry)) ⌝ }
 {
     let checked = check_blocks(t, n);
     let Checked::Passed = checked else {
@@ -214,7 +219,8 @@ fn pairs_of(t: &[f64], n: usize, re: &mut [f64], im: &mut [f64]) -> Checked
 // The same behind the checks that have come to `checked`.
 fn then_pairs(t: &[f64], n: usize, re: &mut [f64], im: &mut [f64], checked: Checked) -> Checked
     requires { ⌜ (checked ≡ Passed → (n ≤ 64) × (length (now t) ≡ n * n) × (length (now re) ≡ n) × (length (now im) ≡ n)) ⌝ }
-    ensures { λ r. ⌜ complexly r (now (re .exit)) (now (im .exit)) ≡ eigenvaluesBy (checked next blockChecks n (now (t .entry))) n (now (t .entry)) (now (re .entry)) (now (im .entry)) ⌝ }
+    ensures { λ r. ⌜ complexly r (now (re .exit)) (now (im .exit))
+        ≡ eigenvaluesBy (checked next blockChecks n (now (t .entry))) n (now (t .entry)) (now (re .entry)) (now (im .entry)) ⌝ }
 {
     let Checked::Passed = checked else {
         return checked;
@@ -224,7 +230,8 @@ fn then_pairs(t: &[f64], n: usize, re: &mut [f64], im: &mut [f64], checked: Chec
 
 // The eigenvalues of T, by their real and imaginary parts. A refusal leaves both lists as they were.
 pub fn complex_eigenvalues(t: &[f64], n: usize, re: &mut [f64], im: &mut [f64]) -> Checked
-    ensures { λ r. ⌜ complexly r (now (re .exit)) (now (im .exit)) ≡ complexRead n (now (t .entry)) (now (re .entry)) (now (im .entry)) ⌝ }
+    ensures { λ r. ⌜ complexly r (now (re .exit)) (now (im .exit))
+        ≡ complexRead n (now (t .entry)) (now (re .entry)) (now (im .entry)) ⌝ }
 {
     let checked = readable(t, n, check_lists(n, re.len(), im.len()));
     then_pairs(t, n, re, im, checked)
@@ -232,7 +239,8 @@ pub fn complex_eigenvalues(t: &[f64], n: usize, re: &mut [f64], im: &mut [f64]) 
 
 // The same for entries that are known to be finite: they are not looked at again.
 pub fn complex_eigenvalues_of_finite(t: &[f64], n: usize, re: &mut [f64], im: &mut [f64]) -> Checked
-    ensures { λ r. ⌜ complexly r (now (re .exit)) (now (im .exit)) ≡ complexFiniteOf n (now (t .entry)) (now (re .entry)) (now (im .entry)) ⌝ }
+    ensures { λ r. ⌜ complexly r (now (re .exit)) (now (im .exit))
+        ≡ complexFiniteOf n (now (t .entry)) (now (re .entry)) (now (im .entry)) ⌝ }
 {
     let checked = finite_readable(t, n, check_lists(n, re.len(), im.len()));
     then_pairs(t, n, re, im, checked)

@@ -1,5 +1,6 @@
--- A run is a loop with fuel, `until done turn budget first`, whose state has a count: a turn counts 1, and only the one that ends the run may go uncounted. What
--- follows from that alone holds for every run that counts: how its count and its budget go together is said here, once.
+-- A run is a loop with fuel, `until done turn budget first`, whose state has a count: a turn counts 1, and only the
+-- one that ends the run may go uncounted. What follows from that alone holds for every run that counts: how its count
+-- and its budget go together is said here, once.
 use mathlib.Core.Path.{_≡_, refl, sym, ap, _∙_}
 use mathlib.Core.Bool.{Bool, true, false, true≢false}
 use Prim.Native.Nat.{ℕ, _+_, _-_, _≤_}
@@ -45,7 +46,8 @@ module _ {A : Type 0} {done : A → Bool} {turn : A → A} {count : A → ℕ} (
       go false e = absurd (short (open-count b x e))
 
   -- where all turns have counted, and the next one has not, the count stays
-  pub count-stays : (b : ℕ) (x : A) → count (run b x) ≡ count x + b → (count (run (b + 1) x) ≡ count x + (b + 1) → ⊥) → count (run (b + 1) x) ≡ count x + b
+  pub count-stays : (b : ℕ) (x : A) → count (run b x) ≡ count x + b → (count (run (b + 1) x) ≡ count x + (b + 1) → ⊥)
+      → count (run (b + 1) x) ≡ count x + b
   count-stays b x all short = go (done (run b x)) refl
     where
       go : (d : Bool) → done (run b x) ≡ d → count (run (b + 1) x) ≡ count x + b

@@ -1,5 +1,6 @@
--- A run that counts, made in portions. A portion of k makes k turns at most from where the run stands. It is parked where all of them have counted, even if the run is
--- done with the last; else the run has finished. Every division into portions comes to one portion of all together.
+-- A run that counts, made in portions. A portion of k makes k turns at most from where the run stands. It is parked
+-- where all of them have counted, even if the run is done with the last; else the run has finished. Every division
+-- into portions comes to one portion of all together.
 use mathlib.Core.Path.{_≡_, refl, sym, ap, _∙_}
 use mathlib.Core.Bool.{Bool, true, false, cond}
 use mathlib.Core.List.{List, [], _∷_}
@@ -19,7 +20,8 @@ unfoldable pub portion : {A : Type 0} → (done : A → Bool) → (turn : A → 
 portion done turn count k x = let y = until done turn k x in cond (eqb (count y) (count x + k)) (parked y) (finished y)
 
 -- one after another, until one finishes or the last is used
-unfoldable pub portions : {A : Type 0} → (done : A → Bool) → (turn : A → A) → (count : A → ℕ) → (ks : List ℕ) → A → Portioned A
+unfoldable pub portions : {A : Type 0} → (done : A → Bool) → (turn : A → A) → (count : A → ℕ) → (ks : List ℕ) → A
+    → Portioned A
 portions done turn count [] x = parked x
 portions done turn count (k ∷ ks) x = elim (portion done turn count k x) [ parked y ↦ portions done turn count ks y | finished y ↦ finished y ]
 
@@ -68,7 +70,8 @@ module _ {A : Type 0} {done : A → Bool} {turn : A → A} {count : A → ℕ} (
       next : Portioned A → Portioned A
       next o = elim o [ parked y ↦ portions done turn count ks y | finished y ↦ finished y ]
 
-      go : (d : Bool) → eqb (count (run k x)) (count x + k) ≡ d → portions done turn count ks (run k x) ≡ portioned (together ks) (run k x)
+      go : (d : Bool) → eqb (count (run k x)) (count x + k) ≡ d
+          → portions done turn count ks (run k x) ≡ portioned (together ks) (run k x)
           → next (portioned k x) ≡ portioned (k + together ks) x
       go true e later =
           let all = eqb-true _ _ e in
@@ -80,11 +83,13 @@ module _ {A : Type 0} {done : A → Bool} {turn : A → A} {count : A → ℕ} (
           ∙ sym (portion-finished (k + together ks) x (λ h. let q = ap count same in omega (arith, count-most counted k x)) ∙ ap finished same)
 
   -- What is parked is the run itself after so many turns, and all of them have counted.
-  pub parked-run : (ks : List ℕ) (x y : A) → portions done turn count ks x ≡ parked y → (y ≡ until done turn (together ks) x) × (count y ≡ count x + together ks)
+  pub parked-run : (ks : List ℕ) (x y : A) → portions done turn count ks x ≡ parked y
+      → (y ≡ until done turn (together ks) x) × (count y ≡ count x + together ks)
   unfolding portion
   parked-run ks x y h = go (eqb (count (run (together ks) x)) (count x + together ks)) refl (sym (portions-one ks x) ∙ h)
     where
-      go : (d : Bool) → eqb (count (run (together ks) x)) (count x + together ks) ≡ d → cond d (parked (run (together ks) x)) (finished (run (together ks) x)) ≡ parked y
+      go : (d : Bool) → eqb (count (run (together ks) x)) (count x + together ks) ≡ d
+          → cond d (parked (run (together ks) x)) (finished (run (together ks) x)) ≡ parked y
           → (y ≡ run (together ks) x) × (count y ≡ count x + together ks)
       go true e q = let same : y ≡ run (together ks) x = cc in (same, ap count same ∙ eqb-true _ _ e)
       go false e q = let z : _≡_ {A = ℕ} 0 1 = cc in absurd (omega arith)

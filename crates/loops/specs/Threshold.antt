@@ -1,5 +1,5 @@
--- What a run that counts comes to as its budget grows: at every budget the count is the budget; or there is one count c such that it is so up to c, and all larger
--- budgets end in one and the same.
+-- What a run that counts comes to as its budget grows: at every budget the count is the budget; or there is one count
+-- c such that it is so up to c, and all larger budgets end in one and the same.
 use mathlib.Core.Path.{_≡_, refl, ap, _∙_}
 use mathlib.Core.Bool.{Bool, true, false}
 use Prim.Native.Nat.{ℕ, zero, suc, _+_, _<_, _≤_}
@@ -13,7 +13,8 @@ use Rattle.loops.specs.Counted.{Counted, run-settled, short-done, count-
 -- of what is counted and what is run at each budget, up to the budget `most`
 pub data Threshold {A : Type 0} (count : ℕ → ℕ) (ran : ℕ → A) (most : ℕ) : Type 0 where
   never : ((b : ℕ) → b ≤ most → count b ≡ b) → Threshold count ran most
-  from : (c : ℕ) → c < most → ((b : ℕ) → b ≤ c → count b ≡ b) → ((b : ℕ) → c < b → count b ≡ c) → (end : A) → ((b : ℕ) → c < b → ran b ≡ end) → Threshold count ran most
+  from : (c : ℕ) → c < most → ((b : ℕ) → b ≤ c → count b ≡ b) → ((b : ℕ) → c < b → count b ≡ c) → (end : A)
+      → ((b : ℕ) → c < b → ran b ≡ end) → Threshold count ran most
 
 module _ {A : Type 0} {done : A → Bool} {turn : A → A} {count : A → ℕ} (counted : Counted done turn count) where
   abbrev run : ℕ → A → A
@@ -29,7 +30,8 @@ module _ {A : Type 0} {done : A → Bool} {turn : A → A} {count : A → ℕ} (
     | never all ↦ go all (eqb (count (run (suc most) x)) (suc most)) refl
   ]
     where
-      go : ((b : ℕ) → b ≤ most → count (run b x) ≡ b) → (d : Bool) → eqb (count (run (suc most) x)) (suc most) ≡ d → Thresholds x (suc most)
+      go : ((b : ℕ) → b ≤ most → count (run b x) ≡ b) → (d : Bool) → eqb (count (run (suc most) x)) (suc most) ≡ d
+          → Thresholds x (suc most)
       go all true e = never (λ b l. upto b (decLt b (suc most)) l)
         where
           upto : (b : ℕ) → Dec (b < suc most) → b ≤ suc most → count (run b x) ≡ b

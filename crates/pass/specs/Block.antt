@@ -1,5 +1,5 @@
--- A block of two rows and columns: its eigenvalues, the rotation that makes it triangular, and what that does to T and Q
--- (document 01, steps 1, 3 and 6; docs/SUMS.md, 7.2 to 7.4 and 7.8).
+-- A block of two rows and columns: its eigenvalues, the rotation that makes it triangular, and what that does to T
+-- and Q (document 01, steps 1, 3 and 6; docs/SUMS.md, 7.2 to 7.4 and 7.8).
 use Prim.Native.Nat.{ℕ, _+_}
 use mathlib.Core.Bool.{cond}
 use mathlib.Core.List.{List, [], _∷_}
@@ -55,8 +55,8 @@ basisOf b = cond (isZero (b .h10)) Stand (basisBy b (eigvalsOf b))
 
 -- ---- what it does
 
--- the rows k and k + 1 of T by the inverse, in all columns from k to the order; then its columns k and k + 1 in the rows down to k + 1; +0 below the
--- diagonal
+-- the rows k and k + 1 of T by the inverse, in all columns from k to the order; then its columns k and k + 1 in the
+-- rows down to k + 1; +0 below the diagonal
 unfoldable pub turnedT : (n k : ℕ) → Basis → (t : List Float) → List Float
 turnedT n k Stand t = t
 turnedT n k (Rotate r) t = set (rotatedRows r n k (k + 2) (rotated (inverseOf r) n k k n t)) (place n (k + 1) k) zero

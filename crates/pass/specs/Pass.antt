@@ -22,8 +22,8 @@ use Rattle.pass.specs.Pair.{Pair, pair, onQ}
 
 -- ---- the columns whose axes a pass uses
 
--- The first three entries of the first column of (T - a)(T - b), where a and b are the two shifts: the eigenvalues of the window's last block
--- of two, of which only sum and product are needed. All is read before anything is changed.
+-- The first three entries of the first column of (T - a)(T - b), where a and b are the two shifts: the eigenvalues of
+-- the window's last block of two, of which only sum and product are needed. All is read before anything is changed.
 unfoldable pub firstColumn : (n start end : ℕ) → (t : List Float) → Vector3
 firstColumn n s e t =
     let m = e - 1 in
@@ -51,7 +51,8 @@ columnAt n s k first t = cond (leb k s) first (bulge n k t)
 
 -- ---- one step of a pass
 
--- what the reflection makes of column k - 1 is put there: the norm in row k, and +0 in the other rows that the axis, of that length, covers
+-- what the reflection makes of column k - 1 is put there: the norm in row k, and +0 in the other rows that the axis,
+-- of that length, covers
 unfoldable pub swept : (n k rows : ℕ) → (x : Float) → (t : List Float) → List Float
 swept n k rows x t = range (λ i t. set t (place n i (k - 1)) zero) (k + 1) (k + rows) (set t (place n k (k - 1)) x)
 
@@ -59,8 +60,8 @@ swept n k rows x t = range (λ i t. set t (place n i (k - 1)) zero) (k + 1) (k +
 unfoldable pub sweptPast : (n start k rows : ℕ) → (x : Float) → (t : List Float) → List Float
 sweptPast n s k rows x t = cond (leb k s) t (swept n k rows x t)
 
--- both sides by the axis a from row and column k on: the rows of T in all columns to the order, then the columns of T in its first `rows` rows;
--- and the columns of Q in all its rows
+-- both sides by the axis a from row and column k on: the rows of T in all columns to the order, then the columns of T
+-- in its first `rows` rows; and the columns of Q in all its rows
 unfoldable pub reflectedAt : Setting → (k rows : ℕ) → (a : List Float) → Pair → Pair
 reflectedAt asked k rows a p =
     let n = asked .order in
@@ -70,7 +71,8 @@ reflectedAt asked k rows a p =
 abbrev pub rowsAt : (k end : ℕ) → ℕ
 rowsAt k e = min (k + 4) (e + 1)
 
--- The step at k by the column c, in a pass over the window w. Where the axis answers that there is no reflection, nothing is done.
+-- The step at k by the column c, in a pass over the window w. Where the axis answers that there is no reflection,
+-- nothing is done.
 unfoldable pub stepAt : Setting → Window → (k : ℕ) → (c : List Float) → Pair → Pair
 stepAt asked w k c p =
     let r = axisOf bare c in

@@ -94,7 +94,8 @@ fn sweep2(t: &mut [f64], n: usize, start: usize, k: usize, norm: f64)
 // come first: `reflect_rows3`, and so the next step's axis, needs no others. Those right of them come last.
 fn both_sides3(a: Vector3, t: &mut [f64], n: usize, k: usize, rows: usize)
     requires { ⌜ (n ≤ 64) × (length (now t) ≡ n * n) × (k + 2 < n) × (rows ≤ n) ⌝ }
-    ensures { λ _. ⌜ now (t .exit) ≡ reflectedRows (three a) one n rows k (reflected bare (three a) one n k k n (now (t .entry))) ⌝ }
+    ensures { λ _. ⌜ now (t .exit)
+        ≡ reflectedRows (three a) one n rows k (reflected bare (three a) one n k k n (now (t .entry))) ⌝ }
 {
     let right = k + 3;
     reflection::reflect3(a, t, n, k, k, right);
@@ -104,8 +105,10 @@ fn both_sides3(a: Vector3, t: &mut [f64], n: usize, k: usize, rows: usize)
 
 // The same; and Q.
 fn reflect_at3(a: Vector3, t: &mut [f64], q: &mut [f64], asked: Setting, k: usize, rows: usize)
-    requires { ⌜ (asked .order ≤ 64) × (length (now t) ≡ asked .order * asked .order) × (k + 2 < asked .order) × (rows ≤ asked .order) ⌝ }
-    ensures { λ _. ⌜ pair (now (t .exit)) (now (q .exit)) ≡ reflectedAt asked k rows (three a) (pair (now (t .entry)) (now (q .entry))) ⌝ }
+    requires { ⌜ (asked .order ≤ 64) × (length (now t) ≡ asked .order * asked .order) × (k + 2 < asked .order)
+        × (rows ≤ asked .order) ⌝ }
+    ensures { λ _. ⌜ pair (now (t .exit)) (now (q .exit))
+        ≡ reflectedAt asked k rows (three a) (pair (now (t .entry)) (now (q .entry))) ⌝ }
 {
     both_sides3(a, t, asked.order, k, rows);
     if asked.wanted {
@@ -115,7 +118,8 @@ fn reflect_at3(a: Vector3, t: &mut [f64], q: &mut [f64], asked: Setting, k: usiz
 
 // Both sides and Q by an axis of two.
 fn reflect_at2(a: Vector2, t: &mut [f64], q: &mut [f64], asked: Setting, k: usize, rows: usize)
-    ensures { λ _. ⌜ pair (now (t .exit)) (now (q .exit)) ≡ reflectedAt asked k rows (two a) (pair (now (t .entry)) (now (q .entry))) ⌝ }
+    ensures { λ _. ⌜ pair (now (t .exit)) (now (q .exit))
+        ≡ reflectedAt asked k rows (two a) (pair (now (t .entry)) (now (q .entry))) ⌝ }
 {
     reflection::reflect2(a, t, asked.order, k, k, asked.order);
     reflection::reflect_rows2(a, t, asked.order, rows, k);
@@ -137,8 +141,10 @@ fn rows_at(k: usize, end: usize) -> usize
 
 // The step at k by the column, in a pass over the window w.
 fn step3(column: Vector3, t: &mut [f64], q: &mut [f64], asked: Setting, w: Window, k: usize)
-    requires { ⌜ (asked .order ≤ 64) × (length (now t) ≡ asked .order * asked .order) × (k + 2 < asked .order) × (w .end < asked .order) ⌝ }
-    ensures { λ _. ⌜ pair (now (t .exit)) (now (q .exit)) ≡ stepAt asked w k (three column) (pair (now (t .entry)) (now (q .entry))) ⌝ }
+    requires { ⌜ (asked .order ≤ 64) × (length (now t) ≡ asked .order * asked .order) × (k + 2 < asked .order)
+        × (w .end < asked .order) ⌝ }
+    ensures { λ _. ⌜ pair (now (t .exit)) (now (q .exit))
+        ≡ stepAt asked w k (three column) (pair (now (t .entry)) (now (q .entry))) ⌝ }
 {
     let r = householder::reflection_axis3(column);
     if !r.reflected {
@@ -149,8 +155,10 @@ fn step3(column: Vector3, t: &mut [f64], q: &mut [f64], asked: Setting, w: Windo
 }
 
 fn step2(column: Vector2, t: &mut [f64], q: &mut [f64], asked: Setting, w: Window, k: usize)
-    requires { ⌜ (asked .order ≤ 64) × (length (now t) ≡ asked .order * asked .order) × (k + 1 < asked .order) × (w .end < asked .order) ⌝ }
-    ensures { λ _. ⌜ pair (now (t .exit)) (now (q .exit)) ≡ stepAt asked w k (two column) (pair (now (t .entry)) (now (q .entry))) ⌝ }
+    requires { ⌜ (asked .order ≤ 64) × (length (now t) ≡ asked .order * asked .order) × (k + 1 < asked .order)
+        × (w .end < asked .order) ⌝ }
+    ensures { λ _. ⌜ pair (now (t .exit)) (now (q .exit))
+        ≡ stepAt asked w k (two column) (pair (now (t .entry)) (now (q .entry))) ⌝ }
 {
     let r = householder::reflection_axis2(column);
     if !r.reflected {
@@ -173,8 +181,10 @@ fn column_at(first: Vector3, t: &[f64], n: usize, start: usize, k: usize) -> Vec
 
 // The step at k by three numbers.
 fn chase(first: Vector3, t: &mut [f64], q: &mut [f64], asked: Setting, w: Window, k: usize)
-    requires { ⌜ (asked .order ≤ 64) × (length (now t) ≡ asked .order * asked .order) × (k + 1 < w .end) × (w .end < asked .order) ⌝ }
-    ensures { λ _. ⌜ pair (now (t .exit)) (now (q .exit)) ≡ chased asked w first k (pair (now (t .entry)) (now (q .entry))) ⌝ }
+    requires { ⌜ (asked .order ≤ 64) × (length (now t) ≡ asked .order * asked .order) × (k + 1 < w .end)
+        × (w .end < asked .order) ⌝ }
+    ensures { λ _. ⌜ pair (now (t .exit)) (now (q .exit))
+        ≡ chased asked w first k (pair (now (t .entry)) (now (q .entry))) ⌝ }
 {
     let column = column_at(first, t, asked.order, w.start, k);
     step3(column, t, q, asked, w, k);
@@ -182,7 +192,8 @@ fn chase(first: Vector3, t: &mut [f64], q: &mut [f64], asked: Setting, w: Window
 
 // The last step, by two.
 fn close(t: &mut [f64], q: &mut [f64], asked: Setting, w: Window)
-    requires { ⌜ (asked .order ≤ 64) × (length (now t) ≡ asked .order * asked .order) × (w .start + 2 ≤ w .end) × (w .end < asked .order) ⌝ }
+    requires { ⌜ (asked .order ≤ 64) × (length (now t) ≡ asked .order * asked .order) × (w .start + 2 ≤ w .end)
+        × (w .end < asked .order) ⌝ }
     ensures { λ _. ⌜ pair (now (t .exit)) (now (q .exit)) ≡ closing asked w (pair (now (t .entry)) (now (q .entry))) ⌝ }
 {
     let k = w.end - 1;
@@ -192,7 +203,8 @@ fn close(t: &mut [f64], q: &mut [f64], asked: Setting, w: Window)
 
 // Every step of the pass.
 fn shift_here(t: &mut [f64], q: &mut [f64], asked: Setting, w: Window)
-    requires { ⌜ (asked .order ≤ 64) × (length (now t) ≡ asked .order * asked .order) × (w .start + 2 ≤ w .end) × (w .end < asked .order) ⌝ }
+    requires { ⌜ (asked .order ≤ 64) × (length (now t) ≡ asked .order * asked .order) × (w .start + 2 ≤ w .end)
+        × (w .end < asked .order) ⌝ }
     ensures { λ _. ⌜ pair (now (t .exit)) (now (q .exit)) ≡ passHere asked w (pair (now (t .entry)) (now (q .entry))) ⌝ }
 {
     let start = w.start;

@@ -1,3 +1,4 @@
--- `Plain`: the plain entry, in place and of a matrix that is kept: what it answers and what it leaves; `Known`: worked cases.
+-- `Plain`: the plain entry, in place and of a matrix that is kept: what it answers and what it leaves; `Known`:
+-- worked cases.
 pub mod Plain
 pub mod Known

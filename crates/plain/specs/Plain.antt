@@ -1,5 +1,5 @@
--- The plain entry: real eigenvalues alone, with the tolerance 2^-52 and the budget 10,000, and without Q. It works in place, where the matrix becomes T; a
--- matrix that is kept is copied first.
+-- The plain entry: real eigenvalues alone, with the tolerance 2^-52 and the budget 10,000, and without Q. It works in
+-- place, where the matrix becomes T; a matrix that is kept is copied first.
 use Prim.Native.Nat.{ℕ, _*_, _≤_}
 use mathlib.Core.Bool.{false, cond, not}
 use mathlib.Core.Path.{_≡_}
@@ -77,7 +77,8 @@ plainRun n o = read (complexChecked (o .answer) n (o .pair .t)) (diagonal n (o .
 unfoldable pub plainRead : ℕ → (m w : List Float) → Read
 plainRead n m w = cond (eqb n 2) (plainTwo (eigvalsOf (blockAt 2 0 m))) (plainRun n (plainRan n m w))
 
--- and what stands in the matrix's place then: without a run the matrix, else what the decomposition leaves, NaN throughout if it has refused
+-- and what stands in the matrix's place then: without a run the matrix, else what the decomposition leaves, NaN
+-- throughout if it has refused
 unfoldable pub plainLeft : ℕ → (m w : List Float) → List Float
 plainLeft n m w = cond (eqb n 2) m (plainRan n m w .pair .t)
 

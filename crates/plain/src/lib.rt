@@ -96,7 +96,8 @@ fn block_of(m: &[f64]) -> Block
 // The eigenvalues of a matrix of order 2: the larger one first.
 fn two_of(m: &[f64], values: &mut [f64]) -> Checked
     requires { ⌜ (length (now m) ≡ 4) × (length (now values) ≡ 2) ⌝ }
-    ensures { λ r. ⌜ read r (now (values .exit)) ≡ listed (plainTwo (eigvalsOf (blockAt 2 0 (now (m .entry))))) (now (values .entry)) ⌝ }
+    ensures { λ r. ⌜ read r (now (values .exit))
+        ≡ listed (plainTwo (eigvalsOf (blockAt 2 0 (now (m .entry))))) (now (values .entry)) ⌝ }
 {
     let Eigvals::Real(v) = pass::compute_2x2_eigvals(block_of(m)) else {
         return Checked::Refused(Refusal::ComplexEigenvalues);
@@ -117,7 +118,8 @@ fn plain_two(m: &[f64], values: &mut [f64], work: &mut [f64]) -> Checked
 // The decomposition without Q, in place.
 fn decompose(t: &mut [f64], n: usize, work: &mut [f64]) -> Decomposed
     requires { ⌜ runFits n (length (now t)) (length (now work)) ≡ true ⌝ }
-    ensures { λ r. ⌜ outcome r (pair (now (t .exit)) []) (now (work .exit)) ≡ plainRan n (now (t .entry)) (now (work .entry)) ⌝ }
+    ensures { λ r. ⌜ outcome r (pair (now (t .exit)) []) (now (work .exit))
+        ≡ plainRan n (now (t .entry)) (now (work .entry)) ⌝ }
 {
     let asked = Setting {
         order: n,
@@ -145,7 +147,8 @@ fn plain_run(t: &mut [f64], n: usize, values: &mut [f64], work: &mut [f64]) -> C
 // The arguments have passed.
 fn plain_any(t: &mut [f64], n: usize, values: &mut [f64], work: &mut [f64]) -> Checked
     requires { ⌜ Sized n (length (now t)) (length (now values)) (length (now work)) ⌝ }
-    ensures { λ r. ⌜ inPlace r (now (t .exit)) (now (values .exit)) (now (work .exit)) ≡ plainBegun Passed n (now (t .entry)) (now (values .entry)) (now (work .entry)) ⌝ }
+    ensures { λ r. ⌜ inPlace r (now (t .exit)) (now (values .exit)) (now (work .exit))
+        ≡ plainBegun Passed n (now (t .entry)) (now (values .entry)) (now (work .entry)) ⌝ }
 {
     if n == 2 {
         return plain_two(t, values, work);
@@ -161,7 +164,8 @@ pub fn plain_eigenvalues_in_place(
     values: &mut [f64],
     work: &mut [f64],
 ) -> Checked
-    ensures { λ r. ⌜ inPlace r (now (t .exit)) (now (values .exit)) (now (work .exit)) ≡ plainPlacedOf n (now (t .entry)) (now (values .entry)) (now (work .entry)) ⌝ }
+    ensures { λ r. ⌜ inPlace r (now (t .exit)) (now (values .exit)) (now (work .exit))
+        ≡ plainPlacedOf n (now (t .entry)) (now (values .entry)) (now (work .entry)) ⌝ }
 {
     let checked = check_arguments(t, n, values.len(), work.len());
     let Checked::Passed = checked else {
@@ -177,7 +181,8 @@ pub fn plain_eigenvalues_of_finite(
     values: &mut [f64],
     work: &mut [f64],
 ) -> Checked
-    ensures { λ r. ⌜ inPlace r (now (t .exit)) (now (values .exit)) (now (work .exit)) ≡ plainFiniteOf n (now (t .entry)) (now (values .entry)) (now (work .entry)) ⌝ }
+    ensures { λ r. ⌜ inPlace r (now (t .exit)) (now (values .exit)) (now (work .exit))
+        ≡ plainFiniteOf n (now (t .entry)) (now (values .entry)) (now (work .entry)) ⌝ }
 {
     let checked = check_sizes(n, t.len(), values.len(), work.len());
     let Checked::Passed = checked else {
@@ -189,7 +194,8 @@ pub fn plain_eigenvalues_of_finite(
 // A matrix that is kept: t becomes a copy of it.
 fn plain_copied(m: &[f64], n: usize, values: &mut [f64], t: &mut [f64], work: &mut [f64]) -> Checked
     requires { ⌜ Sized n (length (now m)) (length (now values)) (length (now work)) × (length (now t) ≡ n * n) ⌝ }
-    ensures { λ r. ⌜ plain r (now (values .exit)) (now (work .exit)) ≡ kept (plainBegun Passed n (now (m .entry)) (now (values .entry)) (now (work .entry))) ⌝ }
+    ensures { λ r. ⌜ plain r (now (values .exit)) (now (work .exit))
+        ≡ kept (plainBegun Passed n (now (m .entry)) (now (values .entry)) (now (work .entry))) ⌝ }
 {
     matrix::copy_from(t, m);
     plain_any(t, n, values, work)
@@ -198,7 +204,8 @@ fn plain_copied(m: &[f64], n: usize, values: &mut [f64], t: &mut [f64], work: &m
 // The room is cut to size.
 fn plain_in(m: &[f64], n: usize, values: &mut [f64], room: &mut [f64], work: &mut [f64]) -> Checked
     requires { ⌜ Sized n (length (now m)) (length (now values)) (length (now work)) × (n * n ≤ length (now room)) ⌝ }
-    ensures { λ r. ⌜ plain r (now (values .exit)) (now (work .exit)) ≡ kept (plainBegun Passed n (now (m .entry)) (now (values .entry)) (now (work .entry))) ⌝ }
+    ensures { λ r. ⌜ plain r (now (values .exit)) (now (work .exit))
+        ≡ kept (plainBegun Passed n (now (m .entry)) (now (values .entry)) (now (work .entry))) ⌝ }
 {
     plain_copied(m, n, values, &mut room[..n * n], work)
 }
@@ -206,7 +213,8 @@ fn plain_in(m: &[f64], n: usize, values: &mut [f64], room: &mut [f64], work: &mu
 // Small orders do not pay for clearing a large room.
 fn plain_8(m: &[f64], n: usize, values: &mut [f64], work: &mut [f64]) -> Checked
     requires { ⌜ Sized n (length (now m)) (length (now values)) (length (now work)) × (n ≤ 8) ⌝ }
-    ensures { λ r. ⌜ plain r (now (values .exit)) (now (work .exit)) ≡ kept (plainBegun Passed n (now (m .entry)) (now (values .entry)) (now (work .entry))) ⌝ }
+    ensures { λ r. ⌜ plain r (now (values .exit)) (now (work .exit))
+        ≡ kept (plainBegun Passed n (now (m .entry)) (now (values .entry)) (now (work .entry))) ⌝ }
 {
     let mut room = [0.0f64; 64];
     plain_in(m, n, values, &mut room, work)
@@ -214,7 +222,8 @@ fn plain_8(m: &[f64], n: usize, values: &mut [f64], work: &mut [f64]) -> Checked
 
 fn plain_32(m: &[f64], n: usize, values: &mut [f64], work: &mut [f64]) -> Checked
     requires { ⌜ Sized n (length (now m)) (length (now values)) (length (now work)) × (n ≤ 32) ⌝ }
-    ensures { λ r. ⌜ plain r (now (values .exit)) (now (work .exit)) ≡ kept (plainBegun Passed n (now (m .entry)) (now (values .entry)) (now (work .entry))) ⌝ }
+    ensures { λ r. ⌜ plain r (now (values .exit)) (now (work .exit))
+        ≡ kept (plainBegun Passed n (now (m .entry)) (now (values .entry)) (now (work .entry))) ⌝ }
 {
     let mut room = [0.0f64; 1024];
     plain_in(m, n, values, &mut room, work)
@@ -222,7 +231,8 @@ fn plain_32(m: &[f64], n: usize, values: &mut [f64], work: &mut [f64]) -> Checke
 
 fn plain_64(m: &[f64], n: usize, values: &mut [f64], work: &mut [f64]) -> Checked
     requires { ⌜ Sized n (length (now m)) (length (now values)) (length (now work)) ⌝ }
-    ensures { λ r. ⌜ plain r (now (values .exit)) (now (work .exit)) ≡ kept (plainBegun Passed n (now (m .entry)) (now (values .entry)) (now (work .entry))) ⌝ }
+    ensures { λ r. ⌜ plain r (now (values .exit)) (now (work .exit))
+        ≡ kept (plainBegun Passed n (now (m .entry)) (now (values .entry)) (now (work .entry))) ⌝ }
 {
     let mut room = [0.0f64; 4096];
     plain_in(m, n, values, &mut room, work)
@@ -231,7 +241,8 @@ fn plain_64(m: &[f64], n: usize, values: &mut [f64], work: &mut [f64]) -> Checke
 // Every order; 2 needs no room.
 fn plain_kept(m: &[f64], n: usize, values: &mut [f64], work: &mut [f64]) -> Checked
     requires { ⌜ Sized n (length (now m)) (length (now values)) (length (now work)) ⌝ }
-    ensures { λ r. ⌜ plain r (now (values .exit)) (now (work .exit)) ≡ kept (plainBegun Passed n (now (m .entry)) (now (values .entry)) (now (work .entry))) ⌝ }
+    ensures { λ r. ⌜ plain r (now (values .exit)) (now (work .exit))
+        ≡ kept (plainBegun Passed n (now (m .entry)) (now (values .entry)) (now (work .entry))) ⌝ }
 {
     if n == 2 {
         return plain_two(m, values, work);
@@ -247,7 +258,8 @@ fn plain_kept(m: &[f64], n: usize, values: &mut [f64], work: &mut [f64]) -> Chec
 
 // The same for a matrix that is kept: a copy of it is worked on in place.
 pub fn plain_eigenvalues(m: &[f64], n: usize, values: &mut [f64], work: &mut [f64]) -> Checked
-    ensures { λ r. ⌜ plain r (now (values .exit)) (now (work .exit)) ≡ plainOf n (now (m .entry)) (now (values .entry)) (now (work .entry)) ⌝ }
+    ensures { λ r. ⌜ plain r (now (values .exit)) (now (work .exit))
+        ≡ plainOf n (now (m .entry)) (now (values .entry)) (now (work .entry)) ⌝ }
 {
     let checked = check_arguments(m, n, values.len(), work.len());
     let Checked::Passed = checked else {

@@ -69,7 +69,8 @@ pub(crate) fn put_passes(text: &mut [u8], at: usize, n: usize, passes: u64) -> u
 
 fn put_entry(text: &mut [u8], at: usize, letter: u8, row: usize, col: usize, x: f64) -> usize
     requires { ⌜ (at + 25 ≤ length (now text)) × (row < 32) × (col < 32) ⌝ }
-    ensures { λ r. ⌜ page r (now (text .exit)) ≡ more (entryLine letter row col (toBits binary64 x)) (page at (now (text .entry))) ⌝ }
+    ensures { λ r. ⌜ page r (now (text .exit))
+        ≡ more (entryLine letter row col (toBits binary64 x)) (page at (now (text .entry))) ⌝ }
     ensures { λ r. ⌜ r ≤ at + 25 ⌝ }
 {
     let a = put_byte(text, at, letter);
@@ -82,7 +83,8 @@ fn put_entry(text: &mut [u8], at: usize, letter: u8, row: usize, col: usize, x: 
 // Column by column: at most 1024 lines of 25 bytes.
 pub(crate) fn put_matrix(text: &mut [u8], at: usize, letter: u8, n: usize, a: &[f64]) -> usize
     requires { ⌜ (at + 25600 ≤ length (now text)) × (n ≤ 32) × (length (now a) ≡ n * n) ⌝ }
-    ensures { λ r. ⌜ page r (now (text .exit)) ≡ more (matrixLines letter n (now (a .entry))) (page at (now (text .entry))) ⌝ }
+    ensures { λ r. ⌜ page r (now (text .exit))
+        ≡ more (matrixLines letter n (now (a .entry))) (page at (now (text .entry))) ⌝ }
     ensures { λ r. ⌜ r ≤ at + 25600 ⌝ }
 {
     let mut behind = at;
@@ -94,7 +96,8 @@ pub(crate) fn put_matrix(text: &mut [u8], at: usize, letter: u8, n: usize, a: &[
 
 fn put_eigenvalue(text: &mut [u8], at: usize, k: usize, re: f64, im: f64) -> usize
     requires { ⌜ (at + 39 ≤ length (now text)) × (k < 32) ⌝ }
-    ensures { λ r. ⌜ page r (now (text .exit)) ≡ more (eigenvalueLine k (toBits binary64 re) (toBits binary64 im)) (page at (now (text .entry))) ⌝ }
+    ensures { λ r. ⌜ page r (now (text .exit))
+        ≡ more (eigenvalueLine k (toBits binary64 re) (toBits binary64 im)) (page at (now (text .entry))) ⌝ }
     ensures { λ r. ⌜ r ≤ at + 39 ⌝ }
 {
     let a = put(text, at, b"e");
@@ -106,7 +109,8 @@ fn put_eigenvalue(text: &mut [u8], at: usize, k: usize, re: f64, im: f64) -> usi
 
 pub(crate) fn put_eigenvalues(text: &mut [u8], at: usize, n: usize, re: &[f64], im: &[f64]) -> usize
     requires { ⌜ (at + 39 * n ≤ length (now text)) × (n ≤ 32) × (length (now re) ≡ n) × (length (now im) ≡ n) ⌝ }
-    ensures { λ r. ⌜ page r (now (text .exit)) ≡ more (eigenvalueLines n (now (re .entry)) (now (im .entry))) (page at (now (text .entry))) ⌝ }
+    ensures { λ r. ⌜ page r (now (text .exit))
+        ≡ more (eigenvalueLines n (now (re .entry)) (now (im .entry))) (page at (now (text .entry))) ⌝ }
     ensures { λ r. ⌜ r ≤ at + 39 * n ⌝ }
 {
     let mut behind = at;
@@ -118,7 +122,8 @@ pub(crate) fn put_eigenvalues(text: &mut [u8], at: usize, n: usize, re: &[f64], 
 
 pub(crate) fn put_not_read(text: &mut [u8], at: usize, r: Refusal) -> usize
     requires { ⌜ at + 83 ≤ length (now text) ⌝ }
-    ensures { λ x. ⌜ page x (now (text .exit)) ≡ more (ascii "eigenvalues " ++ refusedLine (toldOf r)) (page at (now (text .entry))) ⌝ }
+    ensures { λ x. ⌜ page x (now (text .exit))
+        ≡ more (ascii "eigenvalues " ++ refusedLine (toldOf r)) (page at (now (text .entry))) ⌝ }
     ensures { λ x. ⌜ x ≤ at + 83 ⌝ }
 {
     let behind = put(text, at, b"eigenvalues ");

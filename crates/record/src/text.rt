@@ -32,7 +32,8 @@ fn put_answer(
     im: &[f64],
 ) -> usize
     requires { ⌜ (at + 1331 ≤ length (now text)) × (n ≤ 32) × (length (now re) ≡ n) × (length (now im) ≡ n) ⌝ }
-    ensures { λ r. ⌜ page r (now (text .exit)) ≡ more (eigenvaluesText n checked (now (re .entry)) (now (im .entry))) (page at (now (text .entry))) ⌝ }
+    ensures { λ r. ⌜ page r (now (text .exit))
+        ≡ more (eigenvaluesText n checked (now (re .entry)) (now (im .entry))) (page at (now (text .entry))) ⌝ }
     ensures { λ r. ⌜ r ≤ at + 1331 ⌝ }
 {
     match checked {
@@ -58,7 +59,8 @@ fn put_read(text: &mut [u8], at: usize, n: usize, t: &[f64]) -> usize
 // An accepted decomposition.
 fn put_accepted(text: &mut [u8], n: usize, passes: u64, t: &[f64], q: &[f64]) -> usize
     requires { ⌜ (65536 ≤ length (now text)) × (n ≤ 32) × (length (now t) ≡ n * n) × (length (now q) ≡ n * n) ⌝ }
-    ensures { λ r. ⌜ page r (now (text .exit)) ≡ more (decomposedText n (Accepted passes) (pair (now (t .entry)) (now (q .entry)))) (page 0 (now (text .entry))) ⌝ }
+    ensures { λ r. ⌜ page r (now (text .exit))
+        ≡ more (decomposedText n (Accepted passes) (pair (now (t .entry)) (now (q .entry)))) (page 0 (now (text .entry))) ⌝ }
     ensures { λ r. ⌜ r ≤ 65536 ⌝ }
 {
     let a = put_passes(text, 0, n, passes);
@@ -70,7 +72,8 @@ fn put_accepted(text: &mut [u8], n: usize, passes: u64, t: &[f64], q: &[f64]) ->
 // What the decomposition has answered, and left as T and Q.
 fn put_decomposed(text: &mut [u8], n: usize, answer: Decomposed, t: &[f64], q: &[f64]) -> usize
     requires { ⌜ (65536 ≤ length (now text)) × (n ≤ 32) × (length (now t) ≡ n * n) × (length (now q) ≡ n * n) ⌝ }
-    ensures { λ r. ⌜ page r (now (text .exit)) ≡ more (decomposedText n answer (pair (now (t .entry)) (now (q .entry)))) (page 0 (now (text .entry))) ⌝ }
+    ensures { λ r. ⌜ page r (now (text .exit))
+        ≡ more (decomposedText n answer (pair (now (t .entry)) (now (q .entry)))) (page 0 (now (text .entry))) ⌝ }
     ensures { λ r. ⌜ r ≤ 65536 ⌝ }
 {
     match answer {
@@ -89,7 +92,8 @@ fn decompose(
 ) -> Decomposed
     requires { ⌜ (length (now entries) ≡ 8 * (h .order * h .order)) × (length (now t) ≡ h .order * h .order) × (now q ≡ zeros (h .order * h .order))
         × (now work ≡ zeros (2 * h .order)) ⌝ }
-    ensures { λ r. ⌜ outcome r (pair (now (t .exit)) (now (q .exit))) (now (work .exit)) ≡ decomposed h (floatsOf (now (entries .entry))) ⌝ }
+    ensures { λ r. ⌜ outcome r (pair (now (t .exit)) (now (q .exit))) (now (work .exit))
+        ≡ decomposed h (floatsOf (now (entries .entry))) ⌝ }
 {
     words::decode(entries, t);
     let asked = Setting {
@@ -103,7 +107,8 @@ fn decompose(
 // The header has passed its checks. T, Q and the workspace too begin as zeros, with room for order 32.
 fn put_passed(text: &mut [u8], h: Header, entries: &[u8]) -> usize
     requires { ⌜ (65536 ≤ length (now text)) × (h .order ≤ 32) × (length (now entries) ≡ 8 * (h .order * h .order)) ⌝ }
-    ensures { λ r. ⌜ page r (now (text .exit)) ≡ more (matrixText h (floatsOf (now (entries .entry)))) (page 0 (now (text .entry))) ⌝ }
+    ensures { λ r. ⌜ page r (now (text .exit))
+        ≡ more (matrixText h (floatsOf (now (entries .entry)))) (page 0 (now (text .entry))) ⌝ }
     ensures { λ r. ⌜ r ≤ 65536 ⌝ }
 {
     let n = h.order;

@@ -1,4 +1,5 @@
--- The checks that several entries make alike, each by itself. An entry joins them by `next`, in the order of document 01's table.
+-- The checks that several entries make alike, each by itself. An entry joins them by `next`, in the order of document
+-- 01's table.
 use Prim.Native.Nat.{ℕ}
 use mathlib.Core.Bool.{Bool, cond, not}
 use mathlib.Core.List.{List}

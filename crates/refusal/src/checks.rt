@@ -88,7 +88,8 @@ pub fn check_entries(m: &[f64], n: usize) -> Checked
 
 // The order, the lengths, the entries; `others` are the lengths of what is lent beside the matrix.
 pub fn check_given(m: &[f64], n: usize, others: Checked) -> Checked
-    ensures { λ r. ⌜ r ≡ givenChecks (lengthCheck WrongLength (length (now (m .entry))) (n * n) next others) n (now (m .entry)) ⌝ }
+    ensures { λ r. ⌜ r
+        ≡ givenChecks (lengthCheck WrongLength (length (now (m .entry))) (n * n) next others) n (now (m .entry)) ⌝ }
 {
     let checked = check_sizes(n, m.len(), others);
     let Checked::Passed = checked else {

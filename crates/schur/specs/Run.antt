@@ -1,5 +1,5 @@
--- The run (document 01, steps 1, 2, 6 and 7; docs/SUMS.md, 7.1 and 7.5 to 7.10): opened, then one turn after another until the window has closed or
--- the counted passes have reached the budget.
+-- The run (document 01, steps 1, 2, 6 and 7; docs/SUMS.md, 7.1 and 7.5 to 7.10): opened, then one turn after another
+-- until the window has closed or the counted passes have reached the budget.
 use Prim.Native.Nat.{ℕ, _+_, _-_, _*_}
 use mathlib.Core.Bool.{Bool, cond, _&&_}
 use mathlib.Core.List.{List}
@@ -53,7 +53,8 @@ after asked e s p = delimiting asked e (λ w. state w (s .passes + 1)) p
 
 -- ---- one turn over an open window
 
--- A window of two: split. Then the end falls by 2 and the pass counts; if the end is 2 or less the run ends here, uncounted.
+-- A window of two: split. Then the end falls by 2 and the pass counts; if the end is 2 or less the run ends here,
+-- uncounted.
 unfoldable pub turnTwo : Setting → State → Pair → Running
 turnTwo asked s p =
     let parted = splitAt asked (s .window .start) p in
@@ -96,7 +97,8 @@ pub record Left : Type 0 where
 abbrev pub left : Ran → Pair → Left
 left a p = record { answer = a; pair = p }
 
--- A count equal to the budget is refused, even if the window has just closed; else T is multiplied by the largest magnitude that it was divided by.
+-- A count equal to the budget is refused, even if the window has just closed; else T is multiplied by the largest
+-- magnitude that it was divided by.
 unfoldable pub answered : (budget : ℕ) → (amax : Float) → Running → Left
 answered budget amax r =
     cond (eqb (r .state .passes) budget) (left (BudgetReached (r .state .window)) (r .pair))

@@ -46,8 +46,10 @@ impl State {
     fn turn_two(self, t: &mut [f64], q: &mut [f64], asked: Setting) -> State
         requires { ⌜ (asked .order ≤ 64) × (length (now t) ≡ asked .order * asked .order) × (self .window .start + 1 ≡ self .window .end)
             × (self .window .end < asked .order) × (self .passes < 18446744073709551615) ⌝ }
-        ensures { λ r. ⌜ running r (pair (now (t .exit)) (now (q .exit))) ≡ turnTwo asked self (pair (now (t .entry)) (now (q .entry))) ⌝ }
-        ensures { λ r. ⌜ (r .window .end < asked .order) × (r .window .start ≤ r .window .end) × (r .passes ≤ self .passes + 1) ⌝ }
+        ensures { λ r. ⌜ running r (pair (now (t .exit)) (now (q .exit)))
+            ≡ turnTwo asked self (pair (now (t .entry)) (now (q .entry))) ⌝ }
+        ensures { λ r. ⌜ (r .window .end < asked .order) × (r .window .start ≤ r .window .end)
+            × (r .passes ≤ self .passes + 1) ⌝ }
     {
         let start = self.window.start;
         let end = self.window.end;
@@ -65,8 +67,10 @@ impl State {
     fn turn_more(self, t: &mut [f64], q: &mut [f64], asked: Setting) -> State
         requires { ⌜ (asked .order ≤ 64) × (length (now t) ≡ asked .order * asked .order) × (self .window .start + 2 ≤ self .window .end)
             × (self .window .end < asked .order) × (self .passes < 18446744073709551615) ⌝ }
-        ensures { λ r. ⌜ running r (pair (now (t .exit)) (now (q .exit))) ≡ turnMore asked self (pair (now (t .entry)) (now (q .entry))) ⌝ }
-        ensures { λ r. ⌜ (r .window .end < asked .order) × (r .window .start ≤ r .window .end) × (r .passes ≤ self .passes + 1) ⌝ }
+        ensures { λ r. ⌜ running r (pair (now (t .exit)) (now (q .exit)))
+            ≡ turnMore asked self (pair (now (t .entry)) (now (q .entry))) ⌝ }
+        ensures { λ r. ⌜ (r .window .end < asked .order) × (r .window .start ≤ r .window .end)
+            × (r .passes ≤ self .passes + 1) ⌝ }
     {
         let window = self.window;
         pass::double_shift(t, q, asked, window);
@@ -77,8 +81,10 @@ impl State {
     fn turn(self, t: &mut [f64], q: &mut [f64], asked: Setting) -> State
         requires { ⌜ (asked .order ≤ 64) × (length (now t) ≡ asked .order * asked .order) × (self .window .start < self .window .end)
             × (self .window .end < asked .order) × (self .passes < 18446744073709551615) ⌝ }
-        ensures { λ r. ⌜ running r (pair (now (t .exit)) (now (q .exit))) ≡ turnOf asked (running self (pair (now (t .entry)) (now (q .entry)))) ⌝ }
-        ensures { λ r. ⌜ (r .window .end < asked .order) × (r .window .start ≤ r .window .end) × (r .passes ≤ self .passes + 1) ⌝ }
+        ensures { λ r. ⌜ running r (pair (now (t .exit)) (now (q .exit)))
+            ≡ turnOf asked (running self (pair (now (t .entry)) (now (q .entry)))) ⌝ }
+        ensures { λ r. ⌜ (r .window .end < asked .order) × (r .window .start ≤ r .window .end)
+            × (r .passes ≤ self .passes + 1) ⌝ }
     {
         if self.window.end <= self.window.start + 1 {
             return self.turn_two(t, q, asked);
@@ -90,7 +96,8 @@ impl State {
     fn run_from(self, t: &mut [f64], q: &mut [f64], asked: Setting, budget: u64) -> State
         requires { ⌜ (asked .order ≤ 64) × (length (now t) ≡ asked .order * asked .order) × (self .window .start ≤ self .window .end)
             × (self .window .end < asked .order) × (self .passes + budget ≤ 18446744073709551615) ⌝ }
-        ensures { λ r. ⌜ running r (pair (now (t .exit)) (now (q .exit))) ≡ runFrom asked budget (running self (pair (now (t .entry)) (now (q .entry)))) ⌝ }
+        ensures { λ r. ⌜ running r (pair (now (t .exit)) (now (q .exit)))
+            ≡ runFrom asked budget (running self (pair (now (t .entry)) (now (q .entry)))) ⌝ }
     {
         let mut s = self;
         let mut left = budget;
@@ -119,7 +126,8 @@ fn scale_down(t: &mut [f64]) -> f64
 
 // Q from the reduced matrix, where it is wanted.
 fn unpack_q(hess: &[f64], work: &[f64], q: &mut [f64], asked: Setting)
-    ensures { λ _. ⌜ now (q .exit) ≡ onQ (asked .wanted) (unpackedQ (asked .order) (now (hess .entry)) (now (work .entry))) (now (q .entry)) ⌝ }
+    ensures { λ _. ⌜ now (q .exit)
+        ≡ onQ (asked .wanted) (unpackedQ (asked .order) (now (hess .entry)) (now (work .entry))) (now (q .entry)) ⌝ }
 {
     if asked.wanted {
         hessenberg::q(hess, asked.order, work, q);
@@ -128,7 +136,8 @@ fn unpack_q(hess: &[f64], work: &[f64], q: &mut [f64], asked: Setting)
 
 // Reduced: H in t, and Q where it is wanted.
 fn unpack(t: &mut [f64], q: &mut [f64], asked: Setting, work: &mut [f64])
-    ensures { λ _. ⌜ pair (now (t .exit)) (now (q .exit)) ≡ reducedPair asked (pair (now (t .entry)) (now (q .entry))) (now (work .entry)) ⌝ }
+    ensures { λ _. ⌜ pair (now (t .exit)) (now (q .exit))
+        ≡ reducedPair asked (pair (now (t .entry)) (now (q .entry))) (now (work .entry)) ⌝ }
 {
     hessenberg::new_with_workspace(t, asked.order, work);
     unpack_q(t, work, q, asked);
@@ -145,7 +154,8 @@ fn begin(t: &mut [f64], q: &mut [f64], asked: Setting, work: &mut [f64]) -> Open
     requires { ⌜ (asked .order ≤ 64) × (3 ≤ asked .order) × (length (now t) ≡ asked .order * asked .order) ⌝ }
     ensures { λ r. ⌜ (running (r .state) (pair (now (t .exit)) (now (q .exit))) ≡ opened asked (pair (now (t .entry)) (now (q .entry))) (now (work .entry)))
         × (r .amax ≡ largest (now (t .entry))) ⌝ }
-    ensures { λ r. ⌜ (r .state .window .end < asked .order) × (r .state .window .start ≤ r .state .window .end) × (r .state .passes ≡ 0) ⌝ }
+    ensures { λ r. ⌜ (r .state .window .end < asked .order) × (r .state .window .start ≤ r .state .window .end)
+        × (r .state .passes ≡ 0) ⌝ }
 {
     let amax = scale_down(t);
     unpack(t, q, asked, work);
@@ -185,7 +195,8 @@ fn one_in_q(q: &mut [f64], wanted: bool)
 // Every order.
 fn run_fitting(t: &mut [f64], q: &mut [f64], asked: Setting, budget: u64, work: &mut [f64]) -> Ran
     requires { ⌜ (asked .order ≤ 64) × (1 ≤ asked .order) × (length (now t) ≡ asked .order * asked .order) ⌝ }
-    ensures { λ r. ⌜ left r (pair (now (t .exit)) (now (q .exit))) ≡ ranOf asked budget (pair (now (t .entry)) (now (q .entry))) (now (work .entry)) ⌝ }
+    ensures { λ r. ⌜ left r (pair (now (t .exit)) (now (q .exit)))
+        ≡ ranOf asked budget (pair (now (t .entry)) (now (q .entry))) (now (work .entry)) ⌝ }
 {
     if asked.order == 1 {
         one_in_q(q, asked.wanted);
@@ -220,7 +231,8 @@ pub fn do_decompose(
     budget: u64,
     work: &mut [f64],
 ) -> Ran
-    ensures { λ r. ⌜ left r (pair (now (t .exit)) (now (q .exit))) ≡ runOf asked budget (pair (now (t .entry)) (now (q .entry))) (now (work .entry)) ⌝ }
+    ensures { λ r. ⌜ left r (pair (now (t .exit)) (now (q .exit)))
+        ≡ runOf asked budget (pair (now (t .entry)) (now (q .entry))) (now (work .entry)) ⌝ }
     ensures { λ _. ⌜ now (work .exit) ≡ workAfter (asked .order) (now (t .entry)) (now (work .entry)) ⌝ }
 {
     if !run_fits(asked.order, t.len(), work.len()) {
