@@ -17,7 +17,7 @@ use Rattle.schur.specs.declared.run.Ran.the-variants.{Ended, BudgetReached, Unf
 use Rattle.schur.specs.Run.{ranOf}
 use Rattle.schur.proofs.Independent.{ranOf-same}
 use Rattle.decomposition.specs.declared.Decomposed.the-variants.{Accepted}
-use Rattle.decomposition.specs.Checks.{allLengths, argumentChecks, resultChecks}
+use Rattle.decomposition.specs.Checks.{allLengths, resultChecks}
 use Rattle.decomposition.specs.Decomposition.{verdict, passesOf, decompositionOf}
 use Rattle.decomposition.proofs.Passing.{all-right, right-passed}
 use Rattle.decomposition.proofs.Touched.{checksOf, accepted-passed, as-run, accepted-run}

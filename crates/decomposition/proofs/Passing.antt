@@ -1,12 +1,11 @@
 -- Where all checks of the arguments have passed: what each of them tells, and that the run's own test holds then. Assumes nothing.
 use Prim.Native.Nat.{ℕ, _*_, _≤_}
-use mathlib.Core.Bool.{Bool, true, not}
+use mathlib.Core.Bool.{true}
 use mathlib.Core.Path.{_≡_, refl, sym, _∙_}
 use mathlib.Core.List.{List}
 use native.Mathlib.Omega.{arith}
 use borrow.Author.Tests.{leb-true, le-leb, eq-eqb, not-false}
 use lib.Dec.{leb}
-use lib.ListN.{length}
 use lib.Ieee.{Float}
 use Rattle.loops.specs.Constants.{zero}
 use Rattle.matrix.specs.Vectors.{filled}
@@ -16,12 +15,12 @@ use Rattle.refusal.specs.declared.refusal.Checked.the-variants.{Passed}
 use Rattle.refusal.specs.declared.search.Search.the-variants.{Nowhere}
 use Rattle.refusal.specs.Refusal.{refuse, _next_}
 use Rattle.refusal.specs.Search.{firstNotFinite}
-use Rattle.refusal.proofs.Checking.{next-passed, next-passes, refuse-passed}
-use Rattle.refusal.proofs.Passing.{order-passed, order-passes, length-passed, lent-passed, lent-passes, matrices-passed, entries-passed, entries-passes}
+use Rattle.refusal.proofs.Checking.{next-passed, refuse-passed}
+use Rattle.refusal.proofs.Passing.{order-passed, order-passes, length-passed, matrices-passed, entries-passed, entries-passes}
 use Rattle.pass.specs.declared.setting.Setting.{Setting}
 use Rattle.pass.specs.Pair.{Pair, pair}
 use Rattle.schur.specs.Run.{Left, runFits, ranOf}
-use Rattle.decomposition.specs.Checks.{toleranceFits, budgetFits, placedLengths, allLengths, argumentChecks}
+use Rattle.decomposition.specs.Checks.{toleranceFits, budgetFits, allLengths, argumentChecks}
 use Rattle.decomposition.specs.Decomposition.{begun, judged, entryOf}
 
 pub record Right (lengths : Checked) (asked : Setting) (budget : ℕ) (m : List Float) : Type 0 where
@@ -73,20 +72,6 @@ all-lent asked mn tn qn wn h =
     let a = next-passed _ _ h in
     let l = matrices-passed _ _ mn tn qn (a .0) in
     record { alike = l .m ∙ sym (l .t); square = l .t; room = length-passed _ wn _ (a .1) }
-
-pub placed-lent : (asked : Setting) (tn qn wn : ℕ) → placedLengths asked tn qn wn ≡ Passed → Sizes (asked .order) tn tn wn
-unfolding placedLengths
-placed-lent asked tn qn wn h =
-    let a = next-passed _ _ h in
-    record { alike = refl; square = lent-passed _ _ tn qn (a .0) .t; room = length-passed _ wn _ (a .1) }
-
--- what passes with the matrix passes in its place
-pub all-placed : (asked : Setting) (mn tn qn wn : ℕ) → allLengths asked mn tn qn wn ≡ Passed → placedLengths asked mn qn wn ≡ Passed
-unfolding allLengths placedLengths
-all-placed asked mn tn qn wn h =
-    let a = next-passed _ _ h in
-    let l = matrices-passed _ _ mn tn qn (a .0) in
-    next-passes (lent-passes (record { t = l .m; q = l .q })) (a .1)
 
 -- so the run's own test holds
 pub sizes-fit : {n mn tn wn : ℕ} → 1 ≤ n → n ≤ 64 → Sizes n mn tn wn → runFits n tn wn ≡ true

@@ -17,13 +17,12 @@ use Rattle.refusal.specs.declared.refusal.Checked.the-variants.{Passed, Refused
 use Rattle.pass.specs.declared.setting.Setting.{Setting}
 use Rattle.pass.specs.Pair.{Pair, pair, onQ}
 use Rattle.pass.proofs.Lengths.{AsLong, same-long, then-long, onQ-length}
-use Rattle.schur.specs.declared.run.Ran.{Ran}
 use Rattle.schur.specs.Run.{Left, ranOf}
 use Rattle.schur.proofs.Lengths.{ran-length}
 use Rattle.decomposition.specs.declared.Decomposed.the-variants.{Accepted, Declined}
-use Rattle.decomposition.specs.Checks.{placedLengths, allLengths, argumentChecks}
+use Rattle.decomposition.specs.Checks.{allLengths, argumentChecks}
 use Rattle.decomposition.specs.Decomposition.{Outcome, outcome, verdict, passesOf, spoiled, settled, decided, judged, begun, entryOf, decompositionOf, placedOf}
-use Rattle.decomposition.proofs.Passing.{Right, Sizes, all-right, right-passed, all-placed, passed-judged, judged-work}
+use Rattle.decomposition.proofs.Passing.{Sizes, all-right, all-lent, passed-judged, judged-work}
 
 -- ---- as a run was judged, so it is answered
 
@@ -144,14 +143,6 @@ module _ (lengths : Checked) (asked : Setting) (budget : ℕ) (m : List Float) (
 pub copied-in-place : (asked : Setting) (budget : ℕ) (m : List Float) (p : Pair) (w : List Float) → checksOf asked budget m p w ≡ Passed
     → decompositionOf asked budget m p w ≡ placedOf asked budget (pair m (p .q)) w
 copied-in-place asked budget m p w h =
-    let r = all-right _ _ _ _ h in
-    let there : Right (placedLengths asked (length m) (length (p .q)) (length w)) asked budget m =
-    record {
-      some = r .some;
-      order = r .order;
-      lent = all-placed asked _ _ _ _ (r .lent);
-      near = r .near;
-      bound = r .bound;
-      entries = r .entries;
-    } in
-    run-judged _ asked budget m p w h ∙ sym (run-judged _ asked budget m (pair m (p .q)) w (right-passed there))
+    let alike = all-lent asked _ _ (length (p .q)) _ (all-right _ _ _ _ h .lent) .alike in
+    let there = ap (λ k. argumentChecks (allLengths asked (length m) k (length (p .q)) (length w)) asked budget m) alike ∙ h in
+    run-judged _ asked budget m p w h ∙ sym (run-judged _ asked budget m (pair m (p .q)) w there)

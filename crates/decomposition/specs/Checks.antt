@@ -9,7 +9,7 @@ use Rattle.refusal.specs.declared.refusal.Refusal.the-variants.{WrongLength, To
 use Rattle.refusal.specs.declared.refusal.Checked.{Checked}
 use Rattle.refusal.specs.Refusal.{refuse, refuseAt, _next_}
 use Rattle.refusal.specs.Search.{firstNotFinite, firstSpoiling}
-use Rattle.refusal.specs.Checks.{orderChecks, lengthCheck, onlyIf, lentLengths, matrixLengths, entryChecks}
+use Rattle.refusal.specs.Checks.{orderChecks, lengthCheck, onlyIf, matrixLengths, entryChecks}
 use Rattle.pass.specs.declared.setting.Setting.{Setting}
 use Rattle.pass.specs.Pair.{Pair}
 
@@ -31,13 +31,11 @@ argumentChecks lengths asked budget m =
     next refuse (not (budgetFits budget)) BudgetOutside
     next entryChecks (asked .order) m
 
--- T, Q where it is wanted, the workspace, by their lengths: where T holds the matrix
-unfoldable pub placedLengths : Setting → (tn qn wn : ℕ) → Checked
-placedLengths asked tn qn wn = let n = asked .order in lentLengths (asked .wanted) (n * n) tn qn next lengthCheck WrongLength wn (2 * n)
-
--- the same behind the matrix
+-- the matrix, T, Q where it is wanted, the workspace, by their lengths
 unfoldable pub allLengths : Setting → (mn tn qn wn : ℕ) → Checked
-allLengths asked mn tn qn wn = let n = asked .order in matrixLengths (asked .wanted) (n * n) mn tn qn next lengthCheck WrongLength wn (2 * n)
+allLengths asked mn tn qn wn =
+    let n = asked .order in
+    matrixLengths (asked .wanted) (n * n) mn tn qn next lengthCheck WrongLength wn (2 * n)
 
 -- ---- after a run that ended: T first, or else Q
 

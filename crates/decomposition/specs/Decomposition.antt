@@ -16,7 +16,7 @@ use Rattle.refusal.specs.declared.refusal.Checked.the-variants.{Passed, Refused
 use Rattle.refusal.specs.Shape.{QuasiTriangular}
 use Rattle.decomposition.specs.declared.Decomposed.{Decomposed}
 use Rattle.decomposition.specs.declared.Decomposed.the-variants.{Accepted, Declined}
-use Rattle.decomposition.specs.Checks.{placedLengths, allLengths, argumentChecks, resultChecks}
+use Rattle.decomposition.specs.Checks.{allLengths, argumentChecks, resultChecks}
 
 -- what is answered, what stands in T and Q, and in the workspace
 pub record Outcome : Type 0 where
@@ -81,9 +81,9 @@ entryOf lengths asked budget m p w = begun (argumentChecks lengths asked budget 
 abbrev pub decompositionOf : Setting → (budget : ℕ) → (m : List Float) → Pair → (w : List Float) → Outcome
 decompositionOf asked budget m p w = entryOf (allLengths asked (length m) (length (p .t)) (length (p .q)) (length w)) asked budget m p w
 
--- in place: T holds the matrix
+-- in place: T itself is the matrix
 abbrev pub placedOf : Setting → (budget : ℕ) → Pair → (w : List Float) → Outcome
-placedOf asked budget p w = entryOf (placedLengths asked (length (p .t)) (length (p .q)) (length w)) asked budget (p .t) p w
+placedOf asked budget p w = decompositionOf asked budget (p .t) p w
 
 -- an accepted count lies below the budget
 abbrev pub belowBudget : Decomposed → (budget : ℕ) → Type 0

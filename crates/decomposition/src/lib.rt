@@ -10,7 +10,7 @@ ghost use Rattle.refusal.specs.Refusal.{refuse, refuseAt, _next_};
 ghost use Rattle.refusal.specs.Search.{firstNotFinite, firstSpoiling};
 ghost use Rattle.refusal.specs.Checks.{onlyIf, entryChecks};
 ghost use Rattle.schur.specs.Run.{ranOf, runFits};
-ghost use Rattle.decomposition.specs.Checks.{toleranceFits, budgetFits, placedLengths, allLengths, argumentChecks, resultChecks};
+ghost use Rattle.decomposition.specs.Checks.{toleranceFits, budgetFits, allLengths, argumentChecks, resultChecks};
 ghost use Rattle.decomposition.specs.Decomposition.{outcome, verdict, passesOf, spoiled, settlement, settled, decided, judged, decompositionOf, placedOf, belowBudget, shaped};
 use pass::Setting;
 use refusal::Checked;
@@ -42,19 +42,7 @@ pub fn budget_fits(b: u64) -> bool
     b <= 1000000
 }
 
-// T, Q if it is wanted, the workspace, by their lengths: where T holds the matrix.
-fn check_placed_lengths(asked: Setting, tn: usize, qn: usize, wn: usize) -> Checked
-    requires { ⌜ asked .order ≤ 64 ⌝ }
-    ensures { λ r. ⌜ r ≡ placedLengths asked tn qn wn ⌝ }
-{
-    let lent = refusal::check_lent(asked.wanted, asked.order * asked.order, tn, qn);
-    let Checked::Passed = lent else {
-        return lent;
-    };
-    refusal::check_length(wn, 2 * asked.order, Refusal::WrongLength)
-}
-
-// The same behind the matrix.
+// The matrix, T, Q if it is wanted, the workspace, by their lengths.
 fn check_all_lengths(asked: Setting, mn: usize, tn: usize, qn: usize, wn: usize) -> Checked
     requires { ⌜ asked .order ≤ 64 ⌝ }
     ensures { λ r. ⌜ r ≡ allLengths asked mn tn qn wn ⌝ }
@@ -101,22 +89,6 @@ fn check_arguments(
         return lengths;
     };
     check_values(m, asked, budget)
-}
-
-// The same where T holds the matrix.
-fn check_placed(t: &[f64], asked: Setting, budget: u64, qn: usize, wn: usize) -> Checked
-    ensures { λ r. ⌜ r
-        ≡ argumentChecks (placedLengths asked (length (now (t .entry))) qn wn) asked budget (now (t .entry)) ⌝ }
-{
-    let order = refusal::check_order(asked.order);
-    let Checked::Passed = order else {
-        return order;
-    };
-    let lengths = check_placed_lengths(asked, t.len(), qn, wn);
-    let Checked::Passed = lengths else {
-        return lengths;
-    };
-    check_values(t, asked, budget)
 }
 
 // Q holds a non-finite entry, if it is wanted; else the shape of T.
@@ -229,7 +201,7 @@ pub fn try_new_in_place(
     ensures { λ r. ⌜ belowBudget r budget ⌝ }
     ensures { λ r. ⌜ shaped r (asked .order) (now (t .exit)) ⌝ }
 {
-    match check_placed(t, asked, budget, q.len(), work.len()) {
+    match check_arguments(t, asked, budget, t.len(), q.len(), work.len()) {
         Checked::Refused(r) => Decomposed::Declined(r),
         Checked::Passed => decompose(t, q, asked, budget, work),
     }

@@ -12,7 +12,6 @@ use Rattle.pass.specs.declared.block.Block.{Block}
 use Rattle.pass.specs.declared.block.Values.{Values}
 use Rattle.pass.specs.declared.block.Eigvals.{Eigvals}
 use Rattle.pass.specs.declared.block.Eigvals.the-variants.{Real, NotReal}
-use Rattle.pass.specs.declared.block.Basis.{Basis}
 use Rattle.pass.specs.declared.block.Basis.the-variants.{Rotate, Stand}
 use Rattle.pass.specs.Block.{discriminant, eigvalsOf, basisBy, basisOf}
 

@@ -9,7 +9,6 @@ use lib.Ieee.{Float}
 use Rattle.loops.specs.Until.{until-both}
 use Rattle.matrix.specs.Vectors.{largest, scaled}
 use Rattle.window.specs.declared.Window.{Window}
-use Rattle.window.specs.Window.{delimitOf}
 use Rattle.pass.specs.declared.setting.Setting.{Setting}
 use Rattle.pass.specs.Setting.{wanting}
 use Rattle.pass.specs.Pair.{Pair, pair}

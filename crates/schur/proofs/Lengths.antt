@@ -1,6 +1,5 @@
 -- The run keeps the lengths of T and Q. Assumes nothing.
 use Prim.Native.Nat.{ℕ, _+_, _-_}
-use mathlib.Core.Bool.{Bool}
 use mathlib.Core.Path.{_≡_, refl, _∙_}
 use mathlib.Core.List.{List}
 use lib.Dec.{eqb, leb}

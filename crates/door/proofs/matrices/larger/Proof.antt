@@ -1,8 +1,7 @@
 -- `door::matrices::larger` meets its contract. Assumes nothing.
 use native.Mathlib.Omega.{arith}
 use native.Mathlib.Nat.{mul-le-mul}
-use lib.ListN.{length}
-use Rattle.door.proofs.MatricesPassing.{MatrixFit, matrix-fit}
+use Rattle.door.proofs.MatricesPassing.{matrix-fit}
 use Rattle.door.proofs.matrices.larger.Statement.{statement}
 use Rattle.door.proofs.matrices.larger.Tie as tie
 

@@ -1,7 +1,7 @@
 -- `door::matrices::on_floats` meets its contract. Assumes nothing.
 use native.Mathlib.Omega.{arith}
 use lib.ListN.{length}
-use mathlib.Core.Path.{_≡_, ap, _∙_}
+use mathlib.Core.Path.{ap, _∙_}
 use Prim.Native.Nat.{_*_}
 use Rattle.pass.specs.Pair.{pair}
 use Rattle.decomposition.specs.Decomposition.{settlement}
