@@ -19,7 +19,7 @@ ascii (string._∷_ c s) = code c ∷ ascii s
 -- ---- numbers; `glyph` is the code of a digit and `digits b k n` the last k digits of n in base b, both of the kit's `io`
 
 -- the digits of n in base 10: the last k, or as many as there are
-unfoldable pub decimalIn : (zero n : ℕ) → List ℕ
+unfoldable pub decimalIn : (k n : ℕ) → List ℕ
 decimalIn zero n = []
 decimalIn (suc k) n = cond (ltb n 10) (glyph n ∷ []) (decimalIn k (n / 10) ++ glyph (n % 10) ∷ [])
 

@@ -8,7 +8,7 @@ use lib.Dec.{leb, ltb}
 use lib.Ieee.{Float, nan, inf, fin, up, down, size, odd, binary64, ofBits, toBits}
 
 -- The whole part of the root of X, for an X below 4 ^ k: that of X / 4 doubled, or one more where the square of that is still within X.
-unfoldable pub floorRoot : (zero : ℕ) → ℕ → ℕ
+unfoldable pub floorRoot : (k X : ℕ) → ℕ
 floorRoot zero X = 0
 floorRoot (suc k) X = let r = floorRoot k (X / 4) * 2 in cond (leb ((r + 1) * (r + 1)) X) (r + 1) r
 
