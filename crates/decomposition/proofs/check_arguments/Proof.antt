@@ -13,13 +13,13 @@ lengths-requires c κs = order-passed _ (sym (c .before .before .check-order .en
 returns-2 : tie.Need-returns-2
 unfolding argumentChecks
 returns-2 c =
-    let ordered = c .before .before .before in
+    let ordered : tie.After-enum-told = search in
     next-then (ordered .before .before .check-order .ensures) (ordered .enum-told .given .1) (next-first _ (c .before .before .check-all-lengths .ensures) (c .enum-told4 .given .1))
 
 returns-3 : tie.Need-returns-3
 unfolding argumentChecks
 returns-3 c =
-    let ordered = c .before .before .before .before in
+    let ordered : tie.After-enum-told = search in
     next-then (ordered .before .before .check-order .ensures) (ordered .enum-told .given .1)
     (next-then (c .before .before .before .check-all-lengths .ensures) (c .before .enum-told3 .given .1) (c .check-values .ensures))
 

@@ -7,8 +7,8 @@ use Rattle.decomposition.proofs.decide.Tie as tie
 returns : tie.Need-returns
 unfolding decided
 returns c =
-    let settled = c .before .before .before .before in
-    let counted = settled .before .before .before in
+    let settled : tie.After-settle = search in
+    let counted : tie.After-passes-of = search in
     rw (← counted .passes-of .ensures, ← counted .before .judge .ensures) (settled .settle .ensures)
 
 pub decide-spec : {M : Type 1} → statement M

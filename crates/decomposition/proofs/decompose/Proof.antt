@@ -8,9 +8,10 @@ use Rattle.decomposition.proofs.decompose.Tie as tie
 
 returns : tie.Need-returns
 returns c =
-    let settled = c .before .before .before .before in
-    let ran = settled .before .before .before .before .before .before .before .before .before in
-    let fits = ran .before .before .before .before .before .before .before .pre in
+    let start : tie.Start = search in
+    let settled : tie.After-decide = search in
+    let ran : tie.After-do-decompose = search in
+    let fits = start .pre in
     judged-by _ _ _ _ _ _ (settlement _ _) (ran .do-decompose .ensures .0 ∙ ran-there _ _ _ _ fits) (settled .decide .ensures) (ran .do-decompose .ensures .1 ∙ work-there _ _ _ fits)
 
 pub decompose-spec : {M : Type 1} → statement M

@@ -7,6 +7,6 @@ use Rattle.decomposition.proofs.spoil.Tie as tie
 pub spoil-spec : {M : Type 1} → statement M
 unfolding spoiled
 spoil-spec = tie.close (tie.spec (λ κs. omega arith) (λ c κs. omega arith) (λ c κs. omega arith) (λ c. omega arith) (λ c. omega arith)
-    (λ c. rw (c .before .before .before .before .if1 .taken, c .before .before .fill2 .ensures, c .before .before .before .before .before .before .before .fill .ensures, c .before .before .before .before .before .before .before .before .before .not-a-number .ensures))
+    (λ c. let after-fill : tie.After-fill = search in let after-not-a-number : tie.After-not-a-number = search in rw (c .before .before .before .before .if1 .taken, c .before .before .fill2 .ensures, after-fill .fill .ensures, after-not-a-number .not-a-number .ensures))
     (λ c. omega arith)
-    (λ c. rw (c .if1 .left, c .before .before .before .fill .ensures, c .before .before .before .before .before .not-a-number .ensures)))
+    (λ c. let after-not-a-number : tie.After-not-a-number = search in rw (c .if1 .left, c .before .before .before .fill .ensures, after-not-a-number .not-a-number .ensures)))

@@ -11,7 +11,7 @@ use Rattle.decomposition.proofs.try_new_in_place.Tie as tie
 
 decompose-requires : tie.Need-decompose-requires
 decompose-requires c κs =
-    let told = c .before .before .before in
+    let told : tie.After-enum-told = search in
     let r = all-right _ _ _ _ (sym (told .before .before .check-arguments .ensures) ∙ told .enum-told .given .1) in
     sizes-fit (r .some) (r .order) (all-lent _ _ _ _ _ (r .lent))
 
@@ -20,9 +20,10 @@ returns c = (sym (untouched _ _ _ _ (pair _ _) _ (sym (c .before .before .before
 
 returns-2 : tie.Need-returns-2
 returns-2 c =
-    let ran = c .before .before .before .before .before .before in
-    let told = ran .before .before .before .before in
-    let x = told .before .before .before .before .before .before .before .args in
+    let start : tie.Start = search in
+    let ran : tie.After-decompose = search in
+    let told : tie.After-enum-told = search in
+    let x = start .args in
     let passed = sym (told .before .before .check-arguments .ensures) ∙ told .enum-told .given .1 in
     let whole = ran .decompose .ensures ∙ sym (run-judged _ _ _ _ (pair _ _) _ passed) in
     (whole, promised (x .asked) (x .budget) (x .t .now) (pair (x .t .now) (x .q .now)) (x .work .now) (pair _ _) whole)

@@ -11,8 +11,8 @@ returns c =
 
 returns-2 : tie.Need-returns-2
 returns-2 c =
-    let ran = c .before .before .before .before in
-    let told = ran .before .before .before in
+    let ran : tie.After-run = search in
+    let told : tie.After-enum-told = search in
     decompose-ran _ _ _ _ (sym (told .before .before .check-arguments .ensures) ∙ told .enum-told .given .1) (ran .run .ensures)
 
 pub manulsek-decompose-spec : {M : Type 1} → statement M

@@ -37,25 +37,26 @@ returns c = rw (outside (first (c .before)) (c .if1 .taken))
 
 returns-2 : tie.Need-returns-2 Inv-loop μ-loop
 unfolding reduced workFits
-returns-2 c = rw (inside (first (c .before .before .before)) (c .before .before .if1 .left), outside (c .before .work-fits .ensures) (c .if2 .taken))
+returns-2 c = rw (inside (first (search)) (c .before .before .if1 .left), outside (c .before .work-fits .ensures) (c .if2 .taken))
 
 loop-holds : tie.Need-loop-holds Inv-loop μ-loop
 loop-holds c =
-    let f = fitted (c .before .before .before) in
+    let f = fitted (search) in
     let r = room (c .before) in
     (omega arith, omega arith, omega arith, omega arith, omega arith, omega arith, sym (times-none _ _))
 
 loop-again : tie.Need-loop-again Inv-loop μ-loop
 loop-again c =
-    let inv = c .before .before .before .before .before .before .before .before .loop .inv in
+    let at-loop : tie.At-loop Inv-loop μ-loop = search in
+    let inv = at-loop .loop .inv in
     let turn = c .before .before .before .before .reduce-column .ensures in
     (omega arith, omega arith, omega arith, omega arith, omega arith, omega arith, rw (times-more, ← inv .6) turn)
 
 returns-4 : tie.Need-returns-4 Inv-loop μ-loop
 unfolding reduced workFits
 returns-4 c =
-    let e = c .before .before .before in
-    rw (inside (first (e .before .before .before)) (e .before .before .if1 .left), inside (e .before .work-fits .ensures) (e .if2 .left))
+    let e : tie.Else2 Inv-loop μ-loop = search in
+    rw (inside (first (search)) (e .before .before .if1 .left), inside (e .before .work-fits .ensures) (e .if2 .left))
     (c .before .loop .inv .6 ∙ times-done _ _ _ _ (omega arith) (omega arith))
 
 pub new-with-workspace-spec : {M : Type 1} → statement M

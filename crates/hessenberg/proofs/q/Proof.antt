@@ -22,7 +22,7 @@ returns-2 c = rw (outside (c .before .work-fits .ensures) (c .if2 .taken))
 returns-3 : tie.Need-returns-3
 unfolding unpackedQ workFits
 returns-3 c =
-    let e = c .before .before .before .before .before in
+    let e : tie.Else2 = search in
     rw (c .before .before .assemble-q .ensures, inside (e .before .work-fits .ensures) (e .if2 .left))
 
 pub q-spec : {M : Type 1} → statement M

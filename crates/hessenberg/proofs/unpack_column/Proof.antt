@@ -13,25 +13,26 @@ bounds c = column _ _ (omega arith) (omega arith)
 returns : tie.Need-returns
 unfolding onPart
 returns c =
-    let x = c .before .before .before .before .before .before .before .before .args in
+    let start : tie.Start = search in
+    let x = start .args in
     rw (c .before .before .fill .ensures, c .before .before .before .before .modulus .ensures)
     (column-made (x .n) (x .j) (x .work .now) (x .hess .now) (omega arith) (omega arith) (omega arith))
 
 pub unpack-column-spec : {M : Type 1} → statement M
 unpack-column-spec = tie.close (tie.spec
-    (λ c. omega (arith, bounds (c .before .before)))
+    (λ c. omega (arith, bounds (search)))
     (λ c. omega arith)
-    (λ c. omega (arith, bounds (c .before .before)))
-    (λ c. omega (arith, bounds (c .before .before)))
-    (λ c. omega (arith, bounds (c .before .before)))
+    (λ c. omega (arith, bounds (search)))
+    (λ c. omega (arith, bounds (search)))
+    (λ c. omega (arith, bounds (search)))
     (λ c. omega arith) (λ c. omega arith) (λ c. omega arith) (λ c κs. omega arith)
-    (λ c. omega (arith, bounds (c .before .before .before .before)))
-    (λ c. omega (arith, bounds (c .before .before .before .before)))
-    (λ c. omega (arith, bounds (c .before .before .before .before)))
-    (λ c. omega (arith, bounds (c .before .before .before .before)))
-    (λ c. omega (arith, bounds (c .before .before .before .before)))
-    (λ c. omega (arith, bounds (c .before .before .before .before)))
-    (λ c. simp length-set (omega (arith, bounds (c .before .before .before .before))))
+    (λ c. omega (arith, bounds (search)))
+    (λ c. omega (arith, bounds (search)))
+    (λ c. omega (arith, bounds (search)))
+    (λ c. omega (arith, bounds (search)))
+    (λ c. omega (arith, bounds (search)))
+    (λ c. omega (arith, bounds (search)))
+    (λ c. simp length-set (omega (arith, bounds (search))))
     (λ c κs. omega arith)
     (λ c. omega (arith, simp length-set at (c .before .hess .given)))
     returns)

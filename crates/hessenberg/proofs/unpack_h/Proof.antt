@@ -32,11 +32,12 @@ unfolding unpackedH workFits
 returns-3 c = rw (outside (c .before .work-fits .ensures) (c .if3 .taken))
 
 loop-holds : tie.Need-loop-holds Inv-loop μ-loop
-loop-holds c = (begun (c .before .before), omega arith, eqb-true _ _ (inside (c .before .work-fits .ensures) (c .if3 .left)))
+loop-holds c = (begun (search), omega arith, eqb-true _ _ (inside (c .before .work-fits .ensures) (c .if3 .left)))
 
 loop-again : tie.Need-loop-again Inv-loop μ-loop
 loop-again c =
-    let inv = c .before .before .before .before .before .loop .inv in
+    let at-loop : tie.At-loop Inv-loop μ-loop = search in
+    let inv = at-loop .loop .inv in
     let turn = c .before .before .unpack-column .ensures in
     (down-more (inv .0) (omega arith) (rw (turn, inv .0 .done) (inBlock-behind _ _ _ _ _ _ _ (omega arith))), omega arith, omega arith)
 

@@ -9,7 +9,9 @@ use Rattle.looproots_runs.proofs.answer.Tie as tie
 
 -- what was read lies within the room for it
 array-share-prefix-input : tie.Need-array-share-prefix-input
-array-share-prefix-input c = omega (arith, within (c .before .before .before .before .before .fill .ensures) (c .before .before .k .given .1))
+array-share-prefix-input c =
+    let after-fill : tie.After-fill = search in
+    omega (arith, within (after-fill .fill .ensures) (c .before .before .k .given .1))
 
 pub answer-spec : {M : Type 1} → statement M
 answer-spec = tie.close (tie.spec (λ c κs. search needs) (λ c. search needs) (λ c κs. search needs) (λ c. search needs) (λ c. search needs) (λ c. search needs) (λ c κs. search needs) (λ c. search needs) (λ c κs. search needs) array-share-prefix-input

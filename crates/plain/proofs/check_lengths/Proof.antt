@@ -9,14 +9,14 @@ use Rattle.plain.proofs.check_lengths.Tie as tie
 returns-2 : tie.Need-returns-2
 unfolding plainLengths
 returns-2 c =
-    let squared = c .before .before .before in
+    let squared : tie.After-enum-told = search in
     next-then (squared .before .before .check-length .ensures) (squared .enum-told .given .1) (next-first _ (c .before .before .check-length2 .ensures) (c .enum-told4 .given .1))
 
 returns-3 : tie.Need-returns-3
 unfolding plainLengths
 returns-3 c =
-    let listed = c .before in
-    let squared = listed .before .before .before in
+    let listed : tie.After-enum-told3 = search in
+    let squared : tie.After-enum-told = search in
     next-then (squared .before .before .check-length .ensures) (squared .enum-told .given .1)
     (next-then (listed .before .before .check-length2 .ensures) (listed .enum-told3 .given .1) (c .check-length3 .ensures))
 

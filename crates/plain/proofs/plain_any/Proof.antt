@@ -9,12 +9,12 @@ use Rattle.plain.proofs.plain_any.Tie as tie
 
 returns : tie.Need-returns
 returns c =
-    let done = c .before .before .before .before in
+    let done : tie.After-plain-two = search in
     begun-two (inPlace _ _ _ _) _ _ _ _ (done .before .before .before .before .if1 .taken) (done .plain-two .ensures .0) refl (done .plain-two .ensures .1)
 
 returns-2 : tie.Need-returns-2
 returns-2 c =
-    let done = c .before .before .before .before .before .before in
+    let done : tie.After-plain-run = search in
     let ran = done .plain-run .ensures in
     begun-run (inPlace _ _ _ _) _ _ _ _ (done .before .before .before .before .if1 .left) (ran .0) (ran .1) (ran .2)
 

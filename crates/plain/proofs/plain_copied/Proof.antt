@@ -9,9 +9,10 @@ use Rattle.plain.proofs.plain_copied.Tie as tie
 
 returns : tie.Need-returns
 returns c =
-    let done = c .before .before .before .before .before .before in
-    let copy = done .before .before .before .before .before .before in
-    let x = copy .before .before .before .before .before .before .args in
+    let start : tie.Start = search in
+    let done : tie.After-plain-any = search in
+    let copy : tie.After-copy-from = search in
+    let x = start .args in
     ap (λ p. kept p) (done .plain-any .ensures)
     ∙ ap (λ t. kept (plainBegun Passed (x .n) t (x .values .now) (x .work .now))) (copy .copy-from .ensures ∙ copied-whole _ _ (omega arith))
 

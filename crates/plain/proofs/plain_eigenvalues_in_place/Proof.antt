@@ -11,13 +11,13 @@ unfolding plainPlacedOf
 returns c = begun-kept _ _ _ _ (c .enum-told2 .given .1) ∙ begun-by _ _ _ _ (c .before .before .check-arguments .ensures)
 
 plain-any-requires : tie.Need-plain-any-requires
-plain-any-requires c κs = let told = c .before .before .before in given-sized _ _ _ _ _ (sym (told .before .before .check-arguments .ensures) ∙ told .enum-told .given .1)
+plain-any-requires c κs = let told : tie.After-enum-told = search in given-sized _ _ _ _ _ (sym (told .before .before .check-arguments .ensures) ∙ told .enum-told .given .1)
 
 returns-2 : tie.Need-returns-2
 unfolding plainPlacedOf
 returns-2 c =
-    let done = c .before .before .before .before .before .before in
-    let told = done .before .before .before .before in
+    let done : tie.After-plain-any = search in
+    let told : tie.After-enum-told = search in
     done .plain-any .ensures ∙ begun-by _ _ _ _ (sym (told .enum-told .given .1) ∙ told .before .before .check-arguments .ensures)
 
 pub plain-eigenvalues-in-place-spec : {M : Type 1} → statement M

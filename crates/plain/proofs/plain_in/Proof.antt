@@ -14,12 +14,15 @@ aggregate c = sym (length-take-le _ _ (relend (c .before)))
 
 plain-copied-requires : tie.Need-plain-copied-requires
 plain-copied-requires c κs =
-    let cut = c .before in
-    (cut .before .before .before .before .before .before .pre .0, sym (aggregate cut))
+    let start : tie.Start = search in
+    let cut : tie.After-plain-copied-arg2 = search in
+    (start .pre .0, sym (aggregate cut))
 
 returns : tie.Need-returns
-returns c = c .before .before .before .before .before .before .plain-copied .ensures
+returns c =
+    let after-plain-copied : tie.After-plain-copied = search in
+    after-plain-copied .plain-copied .ensures
 
 pub plain-in-spec : {M : Type 1} → statement M
-plain-in-spec = tie.close (tie.spec (λ c. omega (arith, square-64 (c .before .before .before .before .before .args .n) (omega arith))) relend aggregate plain-copied-requires
+plain-in-spec = tie.close (tie.spec (λ c. let start : tie.Start = search in omega (arith, square-64 (start .args .n) (omega arith))) relend aggregate plain-copied-requires
     (λ c. omega arith) (λ c. omega arith) (λ c. omega arith) returns)

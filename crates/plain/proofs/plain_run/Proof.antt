@@ -10,19 +10,21 @@ use Rattle.plain.proofs.plain_run.Tie as tie
 
 returns : tie.Need-returns
 returns c =
-    let told = c .before in
-    let left = told .before .before .before .before .before .before .decompose .ensures in
+    let after-decompose : tie.After-decompose = search in
+    let told : tie.After-r = search in
+    let left = after-decompose .decompose .ensures in
     (run-refused _ _ _ _ (sym (ap (λ o. o .answer) left) ∙ told .r .given .1), ap (λ o. o .pair .t) left, ap (λ o. o .work) left ∙ judged-work _ _ _)
 
 returns-2 : tie.Need-returns-2
 returns-2 c =
-    let told = c .before .before .before .before .before in
-    let done = told .before .before .before .before .before .before in
+    let start : tie.Start = search in
+    let told : tie.After-enum-told = search in
+    let done : tie.After-decompose = search in
     let left = done .decompose .ensures in
-    let z = done .before .before .before .before .before .before .pre in
+    let z = start .pre in
     let here = c .before .before .diagonal-if-real .ensures ∙ diagonal-fits _ _ _ (z .some) (z .order) (omega arith) (omega arith) in
     (run-read _ _ _ _ (sym (ap (λ o. o .answer) left) ∙ told .enum-told .given .1) (ap (λ o. o .pair .t) left) here, ap (λ o. o .pair .t) left, ap (λ o. o .work) left ∙ judged-work _ _ _)
 
 pub plain-run-spec : {M : Type 1} → statement M
-plain-run-spec = tie.close (tie.spec (λ c κs. run-fits (c .before .before .before .before .before .pre)) (λ c. search needs) (λ c. search needs) (λ c κs. omega arith) (λ c. omega arith) (λ c. omega arith) returns
+plain-run-spec = tie.close (tie.spec (λ c κs. let start : tie.Start = search in run-fits (start .pre)) (λ c. search needs) (λ c. search needs) (λ c κs. omega arith) (λ c. omega arith) (λ c. omega arith) returns
     (λ c. omega arith) (λ c. omega arith) (λ c. omega arith) returns-2)

@@ -30,8 +30,10 @@ returns c =
 loop-again : tie.Need-loop-again Inv-loop μ-loop
 unfolding stands fall
 loop-again c =
-    let l = c .before .before .before .before .before .before .before .before .loop in
-    let goes : stands _ _ (falling (l .e) (l .t)) ≡ false = ap not (sym (c .before .before .before .before .before .is-small .ensures)) ∙ c .before .before .before .before .if1 .left in
+    let after-is-small : tie.After-is-small Inv-loop μ-loop = search in
+    let at-loop : tie.At-loop Inv-loop μ-loop = search in
+    let l = at-loop .loop in
+    let goes : stands _ _ (falling (l .e) (l .t)) ≡ false = ap not (sym (after-is-small .is-small .ensures)) ∙ c .before .before .before .before .if1 .left in
     (omega arith, omega arith, rw (c .before .before .put .ensures) (sym (until-turn _ _ _ _ (omega arith) goes) ∙ l .inv .2))
 
 -- row 0

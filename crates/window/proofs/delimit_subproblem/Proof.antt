@@ -12,8 +12,9 @@ returns c = (rw (outside (c .before .block-fits .ensures) (c .if1 .taken)), omeg
 returns-2 : tie.Need-returns-2
 unfolding delimitOf
 returns-2 c =
+    let after-block-fits : tie.After-block-fits = search in
     let here = c .before .before .delimit-here .ensures in
-    (rw (inside (c .before .before .before .before .before .block-fits .ensures) (c .before .before .before .before .if1 .left)) (here .0), omega arith, omega arith)
+    (rw (inside (after-block-fits .block-fits .ensures) (c .before .before .before .before .if1 .left)) (here .0), omega arith, omega arith)
 
 pub delimit-subproblem-spec : {M : Type 1} → statement M
 delimit-subproblem-spec = tie.close (tie.spec (λ c κs. omega arith) returns

@@ -9,13 +9,13 @@ use Rattle.door.proofs.lists.check_lengths.Tie as tie
 returns-2 : tie.Need-returns-2
 unfolding listLengths
 returns-2 c =
-    let first = c .before .before .before .before in
+    let first : tie.After-enum-told = search in
     next-then (first .before .before .check-length .ensures) (first .enum-told .given .1) (next-first _ (c .before .before .check-length2 .ensures) (c .enum-told4 .given .1))
 
 returns-3 : tie.Need-returns-3
 unfolding listLengths
 returns-3 c =
-    let first = c .before .before .before .before .before in
+    let first : tie.After-enum-told = search in
     next-then (first .before .before .check-length .ensures) (first .enum-told .given .1)
     (next-then (c .before .before .before .check-length2 .ensures) (c .before .enum-told3 .given .1) (c .check-second .ensures))
 

@@ -20,20 +20,9 @@ use Rattle.door.proofs.lists.on_floats.Tie as tie
 fit : (c : tie.Start) → let x = c .args in ListFit (x .c .entry) (x .c .order) (length (x .m .now)) (length (x .re .now)) (length (x .im .now))
 fit c = list-fit _ _ (c .args .m .now) _ _ (c .pre .0)
 
--- the places behind each call, from the list's bytes to the beginning
-abbrev came : tie.After-write-list → tie.After-evaluate
-came c = c .before .before .before .before .before .before .before .before .before
-
-abbrev got : tie.After-write-list → tie.After-decode
-got c = came c .before .before .before .before .before .before
-
-abbrev start : tie.After-write-list → tie.Start
-start c = got c .before .before .before .before .before .before .before .before
-
 write-list-requires : tie.Need-write-list-requires
 write-list-requires c κs =
-    let done = c .before .before .before .before .before .before .before .before in
-    let first = done .before .before .before .before .before .before .before .before .before .before .before .before .before .before in
+    let first : tie.Start = search in
     omega (arith, fit first .list, first .pre .2)
 
 -- the complex reader's second list, whose room has n numbers
@@ -45,19 +34,21 @@ pair-sized n jn y h lent zero =
 
 write-second-requires : tie.Need-write-second-requires
 write-second-requires c κs =
-    let wrote = c .before .before .before .before in
-    let first = start wrote in
+    let first : tie.Start = search in
     λ e. omega (arith, pair-sized (first .args .c .order) _ (first .args .y .now) e (fit first .second) (first .pre .3))
 
 returns : tie.Need-returns
 returns c =
-    let second = c .before .before .before in
-    let listed = second .before .before .before .before .before in
-    let x = start listed .args in
-    let pre = start listed .pre in
-    let floats = decoded (x .m .now) (x .a .now) _ (fit (start listed) .matrix) (pre .1) (got listed .decode .ensures) in
+    let after-evaluate : tie.After-evaluate = search in
+    let after-decode : tie.After-decode = search in
+    let start : tie.Start = search in
+    let second : tie.After-write-second = search in
+    let listed : tie.After-write-list = search in
+    let x = start .args in
+    let pre = start .pre in
+    let floats = decoded (x .m .now) (x .a .now) _ (fit start .matrix) (pre .1) (after-decode .decode .ensures) in
     read (x .c .entry) (x .c .order) (x .m .now) (x .re .now) (x .im .now) _ _ (x .x .now) _ (x .y .now) _ _ _ (pre .0) (pre .2) (pre .3)
-    (came listed .evaluate .ensures ∙ ap (λ a. evaluatedBy (x .c .entry) (x .c .order) a (x .x .now) (x .y .now)) floats)
+    (after-evaluate .evaluate .ensures ∙ ap (λ a. evaluatedBy (x .c .entry) (x .c .order) a (x .x .now) (x .y .now)) floats)
     (listed .write-list .ensures) (second .write-second .ensures) (c .checked-number .ensures)
 
 pub on-floats-spec : {M : Type 1} → statement M

@@ -12,8 +12,9 @@ use Rattle.door.proofs.lists.run.Tie as tie
 
 small-requires : tie.Need-small-requires
 small-requires c κs =
-    let here = c .before .before in
-    (here .if1 .taken, mul-le-mul (here .if1 .taken) (here .if1 .taken), here .before .before .before .before .before .pre)
+    let start : tie.Start = search in
+    let here : tie.Then1 = search in
+    (here .if1 .taken, mul-le-mul (here .if1 .taken) (here .if1 .taken), start .pre)
 
 -- the same call, with what is known of its entry written out
 
@@ -25,41 +26,44 @@ ran n m re im h = sym (ap (λ e. listsBytes e n m re im) h)
 
 larger-requires : tie.Need-larger-requires
 larger-requires c κs =
-    let told = c .before .before in
-    let start = told .before .before .before .before .before .before .before in
+    let told : tie.After-enum-told = search in
+    let start : tie.Start = search in
     checked (start .args .c .order) (start .args .m .now) _ _ (told .enum-told .given .1) (start .pre)
 
 returns-2 : tie.Need-returns-2
 returns-2 c =
-    let came = c .before .before .before .before in
-    let told = came .before .before .before in
-    let x = told .before .before .before .before .before .before .before .args in
+    let start : tie.Start = search in
+    let came : tie.After-larger = search in
+    let told : tie.After-enum-told = search in
+    let x = start .args in
     came .larger .ensures ∙ ran (x .c .order) (x .m .now) (x .re .now) (x .im .now) (told .enum-told .given .1)
 
 larger-requires-2 : tie.Need-larger-requires-2
 larger-requires-2 c κs =
-    let told = c .before .before in
-    let start = told .before .before .before .before .before .before .before in
+    let told : tie.After-enum-told2 = search in
+    let start : tie.Start = search in
     checked (start .args .c .order) (start .args .m .now) _ _ (told .enum-told2 .given .1) (start .pre)
 
 returns-3 : tie.Need-returns-3
 returns-3 c =
-    let came = c .before .before .before .before in
-    let told = came .before .before .before in
-    let x = told .before .before .before .before .before .before .before .args in
+    let start : tie.Start = search in
+    let came : tie.After-larger2 = search in
+    let told : tie.After-enum-told2 = search in
+    let x = start .args in
     came .larger2 .ensures ∙ ran (x .c .order) (x .m .now) (x .re .now) (x .im .now) (told .enum-told2 .given .1)
 
 larger-requires-3 : tie.Need-larger-requires-3
 larger-requires-3 c κs =
-    let told = c .before .before in
-    let start = told .before .before .before .before .before .before .before in
+    let told : tie.After-enum-told3 = search in
+    let start : tie.Start = search in
     checked (start .args .c .order) (start .args .m .now) _ _ (told .enum-told3 .given .1) (start .pre)
 
 returns-4 : tie.Need-returns-4
 returns-4 c =
-    let came = c .before .before .before .before in
-    let told = came .before .before .before in
-    let x = told .before .before .before .before .before .before .before .args in
+    let start : tie.Start = search in
+    let came : tie.After-larger3 = search in
+    let told : tie.After-enum-told3 = search in
+    let x = start .args in
     came .larger3 .ensures ∙ ran (x .c .order) (x .m .now) (x .re .now) (x .im .now) (told .enum-told3 .given .1)
 
 pub run-spec : {M : Type 1} → statement M

@@ -8,9 +8,9 @@ use Rattle.door.proofs.lists.write_list.Tie as tie
 returns-2 : tie.Need-returns-2
 unfolding ifPassed
 returns-2 c =
-    let wrote = c .before .before in
-    let told = wrote .before .before in
-    let start = told .before .before .before .before in
+    let wrote : tie.After-encode = search in
+    let told : tie.After-enum-told = search in
+    let start : tie.Start = search in
     rw (told .enum-told .given .1) (encoded _ (start .args .b .now) (wrote .encode .ensures) (start .pre))
 
 pub write-list-spec : {M : Type 1} → statement M

@@ -7,17 +7,19 @@ use Rattle.door.proofs.matrices.larger.Tie as tie
 
 modest-requires : tie.Need-modest-requires
 modest-requires c κs =
-    let here = c .before .before in
-    (here .if1 .taken, mul-le-mul (here .if1 .taken) (here .if1 .taken), here .before .before .before .before .before .pre)
+    let start : tie.Start = search in
+    let here : tie.Then1 = search in
+    (here .if1 .taken, mul-le-mul (here .if1 .taken) (here .if1 .taken), start .pre)
 
 middle-requires : tie.Need-middle-requires
 middle-requires c κs =
-    let here = c .before .before in
-    (here .if2 .taken, mul-le-mul (here .if2 .taken) (here .if2 .taken), here .before .before .before .before .before .before .before .pre)
+    let start : tie.Start = search in
+    let here : tie.Then2 = search in
+    (here .if2 .taken, mul-le-mul (here .if2 .taken) (here .if2 .taken), start .pre)
 
 large-requires : tie.Need-large-requires
 large-requires c κs =
-    let start = c .before .before .before .before .before .before .before .before .before in
+    let start : tie.Start = search in
     let fit = matrix-fit (start .args .r) (start .args .m .now) _ _ (start .pre) in
     (fit .order, fit .small, start .pre)
 

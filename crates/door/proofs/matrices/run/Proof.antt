@@ -13,8 +13,9 @@ use Rattle.door.proofs.matrices.run.Tie as tie
 
 small-requires : tie.Need-small-requires
 small-requires c κs =
-    let here = c .before .before in
-    (here .if1 .taken, mul-le-mul (here .if1 .taken) (here .if1 .taken), here .before .before .before .before .before .pre)
+    let start : tie.Start = search in
+    let here : tie.Then1 = search in
+    (here .if1 .taken, mul-le-mul (here .if1 .taken) (here .if1 .taken), start .pre)
 
 -- the same request, with what is known of `wanted` written out
 abbrev known : Request → Bool → Request
@@ -28,28 +29,30 @@ ran r m q h = sym (ap (λ b. ranBytes (known r b) m q) h)
 
 larger-requires : tie.Need-larger-requires
 larger-requires c κs =
-    let here = c .before .before in
-    let start = here .before .before .before .before .before .before in
+    let here : tie.Then2 = search in
+    let start : tie.Start = search in
     checked (start .args .r) (start .args .m .now) _ _ (here .if2 .taken) (start .pre)
 
 larger-requires-2 : tie.Need-larger-requires-2
 larger-requires-2 c κs =
-    let here = c .before .before in
-    let start = here .before .before .before .before .before .before in
+    let here : tie.Else2 = search in
+    let start : tie.Start = search in
     checked (start .args .r) (start .args .m .now) _ _ (here .if2 .left) (start .pre)
 
 returns-2 : tie.Need-returns-2
 returns-2 c =
-    let came = c .before .before .before .before in
-    let here = came .before .before .before in
-    let x = here .before .before .before .before .before .before .args in
+    let start : tie.Start = search in
+    let came : tie.After-larger = search in
+    let here : tie.Then2 = search in
+    let x = start .args in
     came .larger .ensures ∙ ran (x .r) (x .m .now) (x .q .now) (here .if2 .taken)
 
 returns-3 : tie.Need-returns-3
 returns-3 c =
-    let came = c .before .before .before .before in
-    let here = came .before .before .before in
-    let x = here .before .before .before .before .before .before .args in
+    let start : tie.Start = search in
+    let came : tie.After-larger2 = search in
+    let here : tie.Else2 = search in
+    let x = start .args in
     came .larger2 .ensures ∙ ran (x .r) (x .m .now) (x .q .now) (here .if2 .left)
 
 pub run-spec : {M : Type 1} → statement M

@@ -12,7 +12,7 @@ returns c = rw (← c .before .before .before .first-not-complex .ensures, c .be
 returns-2 : tie.Need-returns-2
 unfolding blockChecks refuseAt _next_
 returns-2 c =
-    let v = c .before .before .before in
+    let v : tie.After-first-value-not-finite = search in
     rw (
       ← v .before .before .before .first-not-complex .ensures,
       v .before .enum-told .given .1,
@@ -23,7 +23,7 @@ returns-2 c =
 returns-3 : tie.Need-returns-3
 unfolding blockChecks refuseAt _next_
 returns-3 c =
-    let v = c .before .before in
+    let v : tie.After-first-value-not-finite = search in
     rw (
       ← v .before .before .before .first-not-complex .ensures,
       v .before .enum-told .given .1,

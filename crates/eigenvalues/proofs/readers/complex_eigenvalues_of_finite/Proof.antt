@@ -15,14 +15,15 @@ told c = rw (c .before .check-lists .ensures) at (c .finite-readable .ensures)
 then-pairs-requires : tie.Need-then-pairs-requires
 unfolding complexLengths
 then-pairs-requires c κs =
-    let checked = c .before .before in
-    λ h. complex-room (finite-fit _ (checked .before .before .before .before .before .args .t .now) _ (sym (told checked) ∙ h))
+    let start : tie.Start = search in
+    let checked : tie.After-finite-readable = search in
+    λ h. complex-room (finite-fit _ (start .args .t .now) _ (sym (told checked) ∙ h))
 
 returns : tie.Need-returns
 unfolding complexFiniteOf
 returns c =
-    let done = c .before .before .before .before in
-    rw (told (done .before .before .before)) at (done .then-pairs .ensures)
+    let done : tie.After-then-pairs = search in
+    rw (told (search)) at (done .then-pairs .ensures)
 
 pub complex-eigenvalues-of-finite-spec : {M : Type 1} → statement M
 complex-eigenvalues-of-finite-spec = tie.close (tie.spec (λ c κs. omega arith) (λ c κs. omega arith) then-pairs-requires (λ c. omega arith) (λ c. omega arith) returns)

@@ -22,8 +22,8 @@ then-diagonal-requires c κs = λ h. real-room (sizes-fit _ _ _ (sym (told (c .b
 returns : tie.Need-returns
 unfolding diagonalIfReal
 returns c =
-    let done = c .before .before in
-    rw (told (done .before .before), next-assoc) at (done .then-diagonal .ensures)
+    let done : tie.After-then-diagonal = search in
+    rw (told (search), next-assoc) at (done .then-diagonal .ensures)
 
 pub diagonal-if-real-spec : {M : Type 1} → statement M
 diagonal-if-real-spec = tie.close (tie.spec (λ c κs. omega arith) (λ c κs. omega arith) then-diagonal-requires (λ c. omega arith) returns)

@@ -15,13 +15,15 @@ told c = rw (c .before .check-length .ensures) at (c .readable .ensures)
 
 then-diagonal-requires : tie.Need-then-diagonal-requires
 unfolding realLengths
-then-diagonal-requires c κs = λ h. real-room (readable-fit _ (c .before .before .before .before .before .args .t .now) _ (sym (told (c .before)) ∙ h))
+then-diagonal-requires c κs =
+    let start : tie.Start = search in
+    λ h. real-room (readable-fit _ (start .args .t .now) _ (sym (told (c .before)) ∙ h))
 
 returns : tie.Need-returns
 unfolding realRead realChecks
 returns c =
-    let done = c .before .before in
-    real-held _ _ _ _ _ (rw (told (done .before .before)) at (done .then-diagonal .ensures))
+    let done : tie.After-then-diagonal = search in
+    real-held _ _ _ _ _ (rw (told (search)) at (done .then-diagonal .ensures))
 
 pub eigenvalues-spec : {M : Type 1} → statement M
 eigenvalues-spec = tie.close (tie.spec (λ c κs. omega arith) (λ c κs. omega arith) then-diagonal-requires (λ c. omega arith) returns)

@@ -14,13 +14,15 @@ told c = rw (c .before .check-length .ensures) at (c .finite-readable .ensures)
 
 then-diagonal-requires : tie.Need-then-diagonal-requires
 unfolding realLengths
-then-diagonal-requires c κs = λ h. real-room (finite-fit _ (c .before .before .before .before .before .args .t .now) _ (sym (told (c .before)) ∙ h))
+then-diagonal-requires c κs =
+    let start : tie.Start = search in
+    λ h. real-room (finite-fit _ (start .args .t .now) _ (sym (told (c .before)) ∙ h))
 
 returns : tie.Need-returns
 unfolding realFiniteOf
 returns c =
-    let done = c .before .before in
-    rw (told (done .before .before)) at (done .then-diagonal .ensures)
+    let done : tie.After-then-diagonal = search in
+    rw (told (search)) at (done .then-diagonal .ensures)
 
 pub eigenvalues-of-finite-spec : {M : Type 1} → statement M
 eigenvalues-of-finite-spec = tie.close (tie.spec (λ c κs. omega arith) (λ c κs. omega arith) then-diagonal-requires (λ c. omega arith) returns)

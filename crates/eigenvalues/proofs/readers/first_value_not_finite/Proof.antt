@@ -21,10 +21,10 @@ tested c = finite-by _ _ _ _ _ _ _ (c .before .before .before .before .loop .inv
 
 pub first-value-not-finite-spec : {M : Type 1} → statement M
 first-value-not-finite-spec = tie.close (tie.spec Inv-loop μ-loop (λ c. (sought-none _ _, before-first _ _)) (λ c κs. omega arith) (λ c κs. omega arith) (λ c κs. omega arith)
-    (λ c. place-here (c .before .before .before .before .before .loop .inv .0) (omega arith) (sym (tested (c .before)) ∙ c .if1 .taken))
+    (λ c. let at-loop : tie.At-loop Inv-loop μ-loop = search in place-here (at-loop .loop .inv .0) (omega arith) (sym (tested (c .before)) ∙ c .if1 .taken))
     (λ c. omega arith) (λ c. omega arith)
-    (λ c. (
-      sought-more (c .before .before .before .before .before .loop .inv .0) (omega arith) (sym (tested (c .before)) ∙ c .if1 .left),
+    (λ c. let at-loop : tie.At-loop Inv-loop μ-loop = search in (
+      sought-more (at-loop .loop .inv .0) (omega arith) (sym (tested (c .before)) ∙ c .if1 .left),
       c .before .before .before .answer-at .ensures ∙ before-next _ _ _,
     ))
     (λ c. place-none (c .before .loop .inv .0) (omega arith)))

@@ -11,8 +11,8 @@ returns c = rw (← c .before .before .check-blocks .ensures, c .enum-told2 .giv
 returns-2 : tie.Need-returns-2
 unfolding ifPassed
 returns-2 c =
-    let done = c .before .before .before .before in
-    let passed = done .before .before .before in
+    let done : tie.After-do-complex-eigenvalues = search in
+    let passed : tie.After-enum-told = search in
     rw (← passed .before .before .check-blocks .ensures, passed .enum-told .given .1, done .do-complex-eigenvalues .ensures .0, done .do-complex-eigenvalues .ensures .1)
 
 pub pairs-of-spec : {M : Type 1} → statement M

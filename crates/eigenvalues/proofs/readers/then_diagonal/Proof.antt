@@ -10,12 +10,12 @@ unfolding _next_ listed ifPassed
 returns c = rw (c .enum-told2 .given .1)
 
 diagonal-of-requires : tie.Need-diagonal-of-requires
-diagonal-of-requires c κs = let passed = c .before in passed .before .before .before .before .pre (passed .enum-told .given .1)
+diagonal-of-requires c κs = let passed : tie.After-enum-told = search in passed .before .before .before .before .pre (passed .enum-told .given .1)
 
 returns-2 : tie.Need-returns-2
 unfolding _next_
 returns-2 c =
-    let done = c .before .before in
+    let done : tie.After-diagonal-of = search in
     rw (done .before .before .enum-told .given .1) (done .diagonal-of .ensures)
 
 pub then-diagonal-spec : {M : Type 1} → statement M

@@ -9,12 +9,14 @@ unfolding _next_ ifPassed
 returns c = rw (c .enum-told2 .given .1)
 
 pairs-of-requires : tie.Need-pairs-of-requires
-pairs-of-requires c κs = let passed = c .before .before in passed .before .before .before .before .before .pre (passed .enum-told .given .1)
+pairs-of-requires c κs =
+    let start : tie.Start = search in
+    let passed : tie.After-enum-told = search in start .pre (passed .enum-told .given .1)
 
 returns-2 : tie.Need-returns-2
 unfolding _next_
 returns-2 c =
-    let done = c .before .before .before .before in
+    let done : tie.After-pairs-of = search in
     rw (done .before .before .before .enum-told .given .1) (done .pairs-of .ensures)
 
 pub then-pairs-spec : {M : Type 1} → statement M

@@ -29,8 +29,8 @@ unfolding rotatedRows
 rotate-rows-spec = tie.close (tie.spec Inv-loop μ-loop (λ c κs. omega arith)
     (λ c. across-refused _ _ _ _ _ _ (c .before .block-fits .ensures) (c .if1 .taken))
     (λ c. across-begun _ _ _ _ _ _ (c .before .block-fits .ensures) (c .if1 .left))
-    (λ c κs. omega arith) (λ c. omega arith) (λ c. omega arith) (λ c. omega arith) (λ c. omega arith) (λ c. omega (arith, right (c .before .before .before)))
-    (λ c. omega arith) (λ c. omega arith) (λ c. omega arith) (λ c. simp length-set (omega (arith, right (c .before .before .before)))) (λ c. omega arith) (λ c. omega arith)
+    (λ c κs. omega arith) (λ c. omega arith) (λ c. omega arith) (λ c. omega arith) (λ c. omega arith) (λ c. omega (arith, right (search)))
+    (λ c. omega arith) (λ c. omega arith) (λ c. omega arith) (λ c. simp length-set (omega (arith, right (search)))) (λ c. omega arith) (λ c. omega arith)
     loop-again
     (λ c. omega arith)
     (λ c. across-done (c .before .loop .inv) (omega arith)))

@@ -30,17 +30,17 @@ second c = from-row-0 _ _ _ _ (from-column-0 _ _ _ _ (c .block-fits2 .ensures))
 fitted : (c : tie.Else1 Inv-loop μ-loop) → let x = c .before .before .before .before .before .args in Fits (x .n) (length (x .m .now)) (x .n) (x .n)
 fitted c = within _ _ _ _ (first (c .before)) (c .if1 .left)
 
-fitted-q : (c : tie.Else2 Inv-loop μ-loop) → let x = c .before .before .before .before .before .before .before .args in Fits (x .n) (length (x .q .now)) (x .n) (x .n)
+fitted-q : (c : tie.Else2 Inv-loop μ-loop) → let start : tie.Start Inv-loop μ-loop = search in let x = start .args in Fits (x .n) (length (x .q .now)) (x .n) (x .n)
 fitted-q c = within _ _ _ _ (second (c .before)) (c .if2 .left)
 
 -- after the tests
-passed : (c : tie.Else4 Inv-loop μ-loop) → let x = c .before .before .before .before .before .before .before .before .before .args in
+passed : (c : tie.Else4 Inv-loop μ-loop) → let start : tie.Start Inv-loop μ-loop = search in let x = start .args in
     assembled (x .n) (x .m .now) (x .signs .now) (x .q .now) ≡ down (withAxis (x .n) (x .m .now) (x .signs .now)) (x .n - 1) (identity (x .n) (x .q .now))
 unfolding assembled
-passed c = rw (inside (first (c .before .before .before .before .before)) (c .before .before .before .before .if1 .left), inside (second (c .before .before .before)) (c .before .before .if2 .left), le-leb _ _ (c .if4 .left))
+passed c = rw (inside (first (search)) (c .before .before .before .before .if1 .left), inside (second (search)) (c .before .before .if2 .left), le-leb _ _ (c .if4 .left))
 
 -- the bounds of the loop's column
-bounds : (c : tie.In-loop Inv-loop μ-loop) → let x = c .before .before .before .before .before .before .before .before .before .before .before .before .before .before .before .args in Column (x .n) (c .before .loop .i - 1)
+bounds : (c : tie.In-loop Inv-loop μ-loop) → let start : tie.Start Inv-loop μ-loop = search in let x = start .args in Column (x .n) (c .before .loop .i - 1)
 bounds c = column _ _ (omega arith) (omega arith)
 
 returns : tie.Need-returns Inv-loop μ-loop
@@ -49,35 +49,37 @@ returns c = rw (outside (first (c .before)) (c .if1 .taken))
 
 returns-2 : tie.Need-returns-2 Inv-loop μ-loop
 unfolding assembled
-returns-2 c = rw (inside (first (c .before .before .before)) (c .before .before .if1 .left), outside (second (c .before)) (c .if2 .taken))
+returns-2 c = rw (inside (first (search)) (c .before .before .if1 .left), outside (second (c .before)) (c .if2 .taken))
 
 returns-3 : tie.Need-returns-3 Inv-loop μ-loop
 returns-3 c = assembled-empty _ _ _ _ (c .if3 .taken)
 
 returns-4 : tie.Need-returns-4 Inv-loop μ-loop
 unfolding assembled
-returns-4 c = rw (inside (first (c .before .before .before .before .before)) (c .before .before .before .before .if1 .left), inside (second (c .before .before .before)) (c .before .before .if2 .left), lt-leb _ _ (c .if4 .taken))
+returns-4 c = rw (inside (first (search)) (c .before .before .before .before .if1 .left), inside (second (search)) (c .before .before .if2 .left), lt-leb _ _ (c .if4 .taken))
 
 loop-holds : tie.Need-loop-holds Inv-loop μ-loop
-loop-holds c = (fitted (c .before .before .before .before .before .before .before .before), omega arith, omega arith, omega (arith, fitted-q (c .before .before .before .before .before .before)), omega arith, refl)
+loop-holds c = (fitted (search), omega arith, omega arith, omega (arith, fitted-q (search)), omega arith, refl)
 
 loop-again : tie.Need-loop-again Inv-loop μ-loop
 unfolding withAxis
 loop-again c =
-    let inv = c .before .before .before .before .before .before .before .before .loop .inv in
-    let x = c .before .before .before .before .before .before .before .before .before .before .before .before .before .before .before .before .before .before .before .before .before .before .args in (
+    let at-loop : tie.At-loop Inv-loop μ-loop = search in
+    let start : tie.Start Inv-loop μ-loop = search in
+    let inv = at-loop .loop .inv in
+    let x = start .args in (
       inv .0,
       omega arith,
       omega arith,
       omega arith,
       omega arith,
-      rw (c .before .before .reflect-with-sign .ensures, c .before .before .before .signum .ensures) (sym (down-turn (withAxis (x .n) (x .m .now) (x .signs .now)) (c .before .before .before .before .before .before .before .before .loop .i) (c .before .before .before .before .before .before .before .before .loop .q) (omega arith)) ∙ inv .5),
+      rw (c .before .before .reflect-with-sign .ensures, c .before .before .before .signum .ensures) (sym (down-turn (withAxis (x .n) (x .m .now) (x .signs .now)) (at-loop .loop .i) (at-loop .loop .q) (omega arith)) ∙ inv .5),
     )
 
 returns-5 : tie.Need-returns-5 Inv-loop μ-loop
 returns-5 c =
     let e : c .before .loop .i ≡ 0 = omega arith in
-    sym (down-none _ _) ∙ rw e at (c .before .loop .inv .5) ∙ rw (c .before .before .before .before .fill-with-identity .ensures) (sym (passed (c .before .before .before .before .before .before)))
+    sym (down-none _ _) ∙ rw e at (c .before .loop .inv .5) ∙ rw (c .before .before .before .before .fill-with-identity .ensures) (sym (passed (search)))
 
 pub assemble-q-spec : {M : Type 1} → statement M
 assemble-q-spec = tie.close (tie.spec Inv-loop μ-loop
@@ -88,7 +90,7 @@ assemble-q-spec = tie.close (tie.spec Inv-loop μ-loop
     returns-3
     (λ c. omega arith)
     returns-4
-    (λ c κs. omega (arith, fitted-q (c .before .before .before)))
+    (λ c κs. omega (arith, fitted-q (search)))
     loop-holds
     (λ c. omega arith) (λ c. omega arith)
     (λ c. omega (arith, bounds c))
@@ -101,5 +103,5 @@ assemble-q-spec = tie.close (tie.spec Inv-loop μ-loop
     (λ c. omega (arith, bounds c))
     (λ c. omega arith) (λ c. omega arith) (λ c κs. omega arith) (λ c κs. omega arith) (λ c. omega arith)
     loop-again
-    (λ c. omega (arith, fitted-q (c .before .before .before .before .before .before .before .before)))
+    (λ c. omega (arith, fitted-q (search)))
     returns-5)

@@ -15,7 +15,7 @@ Inv-loop q₀ n i₀ q i = (n ≤ 64) × (i ≤ n) × (length q ≡ n * n) × (q
 abbrev μ-loop : tie.MeasureT-loop
 μ-loop q₀ n i₀ q i = n - i
 
-spot : (c : tie.In-loop Inv-loop μ-loop) → let x = c .before .before .before .before .before .before .before .args in Placed (x .n) (c .before .loop .i) (c .before .loop .i)
+spot : (c : tie.In-loop Inv-loop μ-loop) → let start : tie.Start Inv-loop μ-loop = search in let x = start .args in Placed (x .n) (c .before .loop .i) (c .before .loop .i)
 spot c = placed _ _ _ (omega arith) (omega arith) (omega arith)
 
 loop-again : tie.Need-loop-again Inv-loop μ-loop
@@ -23,7 +23,8 @@ loop-again c = let inv = c .before .loop .inv in (inv .0, omega arith, simp leng
 
 returns : tie.Need-returns Inv-loop μ-loop
 returns c =
-    let n = c .before .before .before .before .before .before .before .args .n in
+    let start : tie.Start Inv-loop μ-loop = search in
+    let n = start .args .n in
     c .before .loop .inv .3
     ∙ times-done (ones n) _ n _ (omega arith) (omega arith)
     ∙ rw (c .before .before .before .before .fill .ensures) (ones-identity _ _ (omega arith) (omega arith))

@@ -11,12 +11,21 @@ returns c = axis-empty _ _ (c .if1 .taken)
 
 returns-2 : tie.Need-returns-2
 returns-2 c =
-    axis-none (measured _ _ _ _ _ (c .before .before .before .before .before .before .before .if1 .left) (c .before .before .before .before .before .norm-squared .ensures) (c .before .before .before .measure .ensures)) (sym (c .before .is-zero .ensures) ∙ c .if2 .taken)
+    let after-norm-squared : tie.After-norm-squared = search in
+    let else1 : tie.Else1 = search in
+    axis-none (measured _ _ _ _ _ (else1 .if1 .left) (after-norm-squared .norm-squared .ensures) (c .before .before .before .measure .ensures)) (sym (c .before .is-zero .ensures) ∙ c .if2 .taken)
 
 returns-3 : tie.Need-returns-3
 returns-3 c =
-    rw (c .before .before .before .normalize-mut .ensures, c .before .before .before .before .before .before .before .unscale-mut .ensures, c .before .before .before .before .before .before .before .before .before .sqrt .ensures)
-    (axis-made (measured _ _ _ _ _ (c .before .before .before .before .before .before .before .before .before .before .before .before .before .before .before .before .before .if1 .left) (c .before .before .before .before .before .before .before .before .before .before .before .before .before .before .before .norm-squared .ensures) (c .before .before .before .before .before .before .before .before .before .before .before .before .before .measure .ensures)) (sym (c .before .before .before .before .before .before .before .before .before .before .before .is-zero .ensures) ∙ c .before .before .before .before .before .before .before .before .before .before .if2 .left))
+    let after-unscale-mut : tie.After-unscale-mut = search in
+    let after-sqrt : tie.After-sqrt = search in
+    let else2 : tie.Else2 = search in
+    let after-is-zero : tie.After-is-zero = search in
+    let after-measure : tie.After-measure = search in
+    let after-norm-squared : tie.After-norm-squared = search in
+    let else1 : tie.Else1 = search in
+    rw (c .before .before .before .normalize-mut .ensures, after-unscale-mut .unscale-mut .ensures, after-sqrt .sqrt .ensures)
+    (axis-made (measured _ _ _ _ _ (else1 .if1 .left) (after-norm-squared .norm-squared .ensures) (after-measure .measure .ensures)) (sym (after-is-zero .is-zero .ensures) ∙ else2 .if2 .left))
 
 pub reflection-axis-mut-spec : {M : Type 1} → statement M
 reflection-axis-mut-spec = tie.close (tie.spec
@@ -25,5 +34,5 @@ reflection-axis-mut-spec = tie.close (tie.spec
     (λ c. simp length-set (omega arith))
     returns-2
     (λ c κs. omega arith) (λ c κs. omega arith) (λ c κs. omega arith)
-    (λ c. omega (arith, simp length-set at (c .before .before .before .before .before .before .before .unscale-mut .kept .0)))
+    (λ c. let after-unscale-mut : tie.After-unscale-mut = search in omega (arith, simp length-set at (after-unscale-mut .unscale-mut .kept .0)))
     returns-3)

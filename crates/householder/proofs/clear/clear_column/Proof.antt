@@ -33,15 +33,16 @@ returns-2 c = rw (inside (c .before .before .before .block-fits .ensures) (c .be
 
 returns-3 : tie.Need-returns-3
 unfolding clearedHere onPart
-returns-3 c = rw (passed (c .before .before .before .before .before .before), ← c .before .before .before .before .reflection-axis-mut .ensures, not-true (c .before .before .before .before .reflection-axis-mut .result .reflected) (c .if3 .taken))
+returns-3 c = rw (passed (search), ← c .before .before .before .before .reflection-axis-mut .ensures, not-true (c .before .before .before .before .reflection-axis-mut .result .reflected) (c .if3 .taken))
 
 -- what stands in the column after the axis routine is the axis
-rewritten : (c : tie.After-reflection-axis-mut) → let x = c .before .before .before .before .before .before .before .args in let ys = c .reflection-axis-mut .last .0 in
+rewritten : (c : tie.After-reflection-axis-mut) → let start : tie.Start = search in let x = start .args in let ys = c .reflection-axis-mut .last .0 in
     belowRow (x .n) (x .icol) (onPart (λ _. ys) (place (x .n) (x .icol + 1) (x .icol)) (place (x .n) (x .n) (x .icol)) (x .t .now)) ≡ ys
 rewritten c =
-    let x = c .before .before .before .before .before .before .before .args in
-    let f = fitted (c .before .before .before) in
-    let b = bounds (c .before .before) in
+    let start : tie.Start = search in
+    let x = start .args in
+    let f = fitted (search) in
+    let b = bounds (search) in
     let a = place (x .n) (x .icol + 1) (x .icol) in
     let e = place (x .n) (x .n) (x .icol) in
     onPart-part (λ _. c .reflection-axis-mut .last .0) a e (x .t .now) (omega arith) (omega arith) (c .reflection-axis-mut .kept .0 ∙ part-length a e (x .t .now) (omega arith) (omega arith))
@@ -49,14 +50,17 @@ rewritten c =
 returns-4 : tie.Need-returns-4
 unfolding clearedHere onPart
 returns-4 c =
+    let after-signum : tie.After-signum = search in
+    let else3 : tie.Else3 = search in
+    let after-reflection-axis-mut : tie.After-reflection-axis-mut = search in
     rw (
       c .before .before .before .before .reflect-both-sides .ensures .0,
       c .before .before .before .before .reflect-both-sides .ensures .1,
-      c .before .before .before .before .before .signum .ensures,
-      passed (c .before .before .before .before .before .before .before .before .before .before .before .before .before .before),
-      ← c .before .before .before .before .before .before .before .before .before .before .before .before .reflection-axis-mut .ensures,
-      not-false (c .before .before .before .before .before .before .before .before .before .before .before .before .reflection-axis-mut .result .reflected) (c .before .before .before .before .before .before .before .before .if3 .left),
-      rewritten (c .before .before .before .before .before .before .before .before .before .before .before .before),
+      after-signum .signum .ensures,
+      passed (search),
+      ← after-reflection-axis-mut .reflection-axis-mut .ensures,
+      not-false (after-reflection-axis-mut .reflection-axis-mut .result .reflected) (else3 .if3 .left),
+      rewritten (search),
     )
 
 pub clear-column-spec : {M : Type 1} → statement M
@@ -77,6 +81,6 @@ clear-column-spec = tie.close (tie.spec
     (λ c κs. omega arith) (λ c. omega arith)
     returns-3
     (λ c κs. omega arith)
-    (λ c κs. omega (arith, fitted (c .before .before .before .before .before .before .before .before .before .before)))
+    (λ c κs. omega (arith, fitted (search)))
     (λ c. omega arith) (λ c. omega arith)
     returns-4)

@@ -23,27 +23,29 @@ front c =
 returns : tie.Need-returns
 unfolding bothSides
 returns c =
-    (rw (c .before .before .reflect-with-sign .ensures, c .before .before .before .before .before .before .before .before .reflect-rows-with-sign .ensures, c .before .before .before .before .before .before .before .before .before .before .before .before .before .before .copy-from .ensures, front (c .before .before .before .before .before .before .before .before .before .before .before .before .before .before .before .before .before .before .before .before)), c .before .before .before .before .before .before .before .before .before .before .before .before .before .before .copy-from .ensures)
+    let after-reflect-rows-with-sign : tie.After-reflect-rows-with-sign = search in
+    let after-copy-from : tie.After-copy-from = search in
+    (rw (c .before .before .reflect-with-sign .ensures, after-reflect-rows-with-sign .reflect-rows-with-sign .ensures, after-copy-from .copy-from .ensures, front (search)), after-copy-from .copy-from .ensures)
 
 pub reflect-both-sides-spec : {M : Type 1} → statement M
 reflect-both-sides-spec = tie.close (tie.spec
     (λ c. omega arith)
-    (λ c. omega (arith, bounds (c .before .before)))
-    (λ c. omega (arith, bounds (c .before .before)))
-    (λ c. omega (arith, bounds (c .before .before)))
-    (λ c. omega (arith, bounds (c .before .before)))
-    (λ c. omega (arith, bounds (c .before .before)))
-    (λ c. omega (arith, bounds (c .before .before .before)))
-    (λ c. omega (arith, bounds (c .before .before .before)))
-    (λ c. omega (arith, bounds (c .before .before .before .before)))
-    (λ c. omega (arith, bounds (c .before .before .before .before)))
-    (λ c κs. omega (arith, bounds (c .before .before .before .before .before)))
-    (λ c. omega (arith, bounds (c .before .before .before .before .before .before .before .before)))
-    (λ c. omega (arith, bounds (c .before .before .before .before .before .before .before .before .before)))
-    (λ c. omega (arith, bounds (c .before .before .before .before .before .before .before .before .before)))
+    (λ c. omega (arith, bounds (search)))
+    (λ c. omega (arith, bounds (search)))
+    (λ c. omega (arith, bounds (search)))
+    (λ c. omega (arith, bounds (search)))
+    (λ c. omega (arith, bounds (search)))
+    (λ c. omega (arith, bounds (search)))
+    (λ c. omega (arith, bounds (search)))
+    (λ c. omega (arith, bounds (search)))
+    (λ c. omega (arith, bounds (search)))
+    (λ c κs. omega (arith, bounds (search)))
+    (λ c. omega (arith, bounds (search)))
+    (λ c. omega (arith, bounds (search)))
+    (λ c. omega (arith, bounds (search)))
     (λ c κs. omega arith)
-    (λ c. omega (arith, bounds (c .before .before .before .before .before .before .before .before .before .before .before .before .before .before)))
-    (λ c. omega (arith, bounds (c .before .before .before .before .before .before .before .before .before .before .before .before .before .before .before)))
-    (λ c. omega (arith, bounds (c .before .before .before .before .before .before .before .before .before .before .before .before .before .before .before)))
+    (λ c. omega (arith, bounds (search)))
+    (λ c. omega (arith, bounds (search)))
+    (λ c. omega (arith, bounds (search)))
     (λ c κs. omega arith) (λ c. omega arith) (λ c. omega arith)
     returns)

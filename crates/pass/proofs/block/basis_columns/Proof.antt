@@ -34,7 +34,9 @@ returns-2 c = there _ _ _ (omega arith) (four (c .before .before .before .args .
 
 returns-3 : tie.Need-returns-3
 unfolding columnsOf
-returns-3 c = there _ _ _ (omega arith) (four (c .before .before .before .before .before .args .q .now) _ _ _ _ (omega arith) ∙ sym (ap columnsOf (c .before .before .basis .given .1)))
+returns-3 c =
+    let start : tie.Start = search in
+    there _ _ _ (omega arith) (four (start .args .q .now) _ _ _ _ (omega arith) ∙ sym (ap columnsOf (c .before .before .basis .given .1)))
 
 pub basis-columns-spec : {M : Type 1} → statement M
 basis-columns-spec = tie.close (tie.spec returns

@@ -7,4 +7,4 @@ use Rattle.pass.proofs.block.turn_q.Tie as tie
 pub turn-q-spec : {M : Type 1} → statement M
 unfolding turnedQ
 turn-q-spec = tie.close (tie.spec (λ c. omega arith) (λ c. omega arith) (λ c. rw (c .enum-told .given .1)) (λ c κs. omega arith) (λ c. omega arith)
-    (λ c. rw (c .before .before .before .before .before .basis .given .1) (c .before .before .rotate-rows .ensures)))
+    (λ c. let after-basis : tie.After-basis = search in rw (after-basis .basis .given .1) (c .before .before .rotate-rows .ensures)))

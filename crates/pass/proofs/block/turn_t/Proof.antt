@@ -24,11 +24,11 @@ by n k t h e = e ∙ sym (ap (λ b. turnedT n k b t) h)
 
 returns-2 : tie.Need-returns-2
 returns-2 c =
-    let cleared = c .before .before in
-    let columns = cleared .before .before .before .before in
-    let rows = columns .before .before .before .before in
-    let turned = rows .before .before in
-    let basis = turned .before .before in
+    let cleared : tie.After-put = search in
+    let columns : tie.After-rotate-rows = search in
+    let rows : tie.After-rotate = search in
+    let turned : tie.After-inverse = search in
+    let basis : tie.After-basis = search in
     let x = basis .before .before .before .args in
     by (x .n) (x .k) (x .t .now) (basis .basis .given .1)
     (rw (cleared .put .ensures, columns .rotate-rows .ensures, rows .rotate .ensures, turned .inverse .ensures))

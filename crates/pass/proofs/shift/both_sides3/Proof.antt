@@ -13,9 +13,12 @@ use Rattle.pass.proofs.shift.both_sides3.Tie as tie
 -- the columns right of the axis's own come last
 returns : tie.Need-returns
 returns c =
-    let x = c .before .before .before .before .before .before .before .before .before .before .before .before .before .args in
+    let after-reflect-rows3 : tie.After-reflect-rows3 = search in
+    let after-reflect3 : tie.After-reflect3 = search in
+    let start : tie.Start = search in
+    let x = start .args in
     c .before .before .reflect32 .ensures
-    ∙ ap (reflected bare (three (x .a)) one (x .n) (x .k) (x .k + 3) (x .n)) (c .before .before .before .before .before .before .reflect-rows3 .ensures ∙ ap (reflectedRows (three (x .a)) one (x .n) (x .rows) (x .k)) (c .before .before .before .before .before .before .before .before .before .before .reflect3 .ensures))
+    ∙ ap (reflected bare (three (x .a)) one (x .n) (x .k) (x .k + 3) (x .n)) (after-reflect-rows3 .reflect-rows3 .ensures ∙ ap (reflectedRows (three (x .a)) one (x .n) (x .rows) (x .k)) (after-reflect3 .reflect3 .ensures))
     ∙ near-first (three (x .a)) one (x .n) (x .k) (omega arith) (omega arith) (x .rows) (x .t .now) (omega arith) (omega arith)
 
 pub both-sides3-spec : {M : Type 1} → statement M

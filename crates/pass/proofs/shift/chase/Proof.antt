@@ -7,7 +7,7 @@ use Rattle.pass.proofs.shift.chase.Tie as tie
 returns : tie.Need-returns
 unfolding chased
 returns c =
-    let stepped = c .before .before .before .before in
+    let stepped : tie.After-step3 = search in
     rw (stepped .step3 .ensures, stepped .before .before .before .column-at .ensures)
 
 pub chase-spec : {M : Type 1} → statement M

@@ -7,7 +7,7 @@ use Rattle.pass.proofs.shift.close.Tie as tie
 returns : tie.Need-returns
 unfolding closing
 returns c =
-    let stepped = c .before .before .before .before in
+    let stepped : tie.After-step2 = search in
     rw (stepped .step2 .ensures, stepped .before .before .before .bulge2 .ensures)
 
 pub close-spec : {M : Type 1} → statement M

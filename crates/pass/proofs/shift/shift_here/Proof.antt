@@ -18,16 +18,16 @@ abbrev μ-loop : tie.MeasureT-loop
 
 loop-again : tie.Need-loop-again Inv-loop μ-loop
 loop-again c =
-    let stepped = c .before .before .before .before in
+    let stepped : tie.After-chase Inv-loop μ-loop = search in
     let l = stepped .before .before .before .before .loop in
     (omega arith, omega arith, omega arith, omega arith, omega arith, omega arith, stepped .chase .ensures ∙ ap (chased _ _ _ (l .k)) (l .inv .6) ∙ sym (range-more _ _ (l .k) _ (l .inv .0)))
 
 returns : tie.Need-returns Inv-loop μ-loop
 unfolding passHere
 returns c =
-    let shut = c .before .before .before .before in
+    let shut : tie.After-close Inv-loop μ-loop = search in
     let l = shut .before .before .before .before .loop in
-    let read = shut .before .before .before .before .before in
+    let read : tie.After-first-column Inv-loop μ-loop = search in
     let x = read .before .before .before .before .args in
     let s = x .w .start in
     let e = x .w .end in

@@ -14,10 +14,10 @@ returns c =
 
 returns-2 : tie.Need-returns-2
 returns-2 c =
-    let reflected = c .before .before .before .before in
-    let counted = reflected .before in
-    let swept = counted .before .before .before .before .before in
-    let goes = swept .before .before in
+    let reflected : tie.After-reflect-at3 = search in
+    let counted : tie.After-rows-at = search in
+    let swept : tie.After-sweep3 = search in
+    let goes : tie.Else1 = search in
     let axis = goes .before .before .reflection-axis3 in
     step-made _ _ _ _ _ (told (three (axis .result .axis)) (axis .result .norm) (axis .result .reflected)) _ _ _ (axis .ensures) (not-false (axis .result .reflected) (goes .if1 .left))
     (swept .sweep3 .ensures) (counted .rows-at .ensures) (reflected .reflect-at3 .ensures)

@@ -22,7 +22,9 @@ order-small : (c : tie.Else3) → ltb 32 (c .before .before .before .args .h .or
 order-small c = le-ltb 32 (c .before .before .before .args .h .order) (omega arith)
 
 length-right : (c : tie.Else4) → let h = c .before .before .before .before .before .args .h in eqb (h .length) (16 + 8 * (h .order * h .order)) ≡ true
-length-right c = let h = c .before .before .before .before .before .args .h in eq-eqb (h .length) (16 + 8 * (h .order * h .order)) (omega arith)
+length-right c =
+    let start : tie.Start = search in
+    let h = start .args .h in eq-eqb (h .length) (16 + 8 * (h .order * h .order)) (omega arith)
 
 long-enough : (c : tie.Else5) → let x = c .before .before .before .before .before .before .args in ltb (x .bytes) (4 + x .h .length) ≡ false
 long-enough c = le-ltb _ _ (c .if5 .left)
@@ -32,12 +34,12 @@ unfolding headerChecks refuse _next_
 check-spec = tie.close (tie.spec
     (λ c. rw (ne-eqb _ _ (c .if1 .taken)))
     (λ c. rw (kind-right (c .before), eq-eqb _ _ (c .if2 .taken)))
-    (λ c. rw (kind-right (c .before .before), order-some (c .before), lt-ltb _ _ (c .if3 .taken)))
+    (λ c. rw (kind-right (search), order-some (c .before), lt-ltb _ _ (c .if3 .taken)))
     (λ c κs. omega arith)
-    (λ c. let h = c .before .before .before .before .before .args .h in
-    rw (kind-right (c .before .before .before .before), order-some (c .before .before .before), order-small (c .before .before), ne-eqb (h .length) (16 + 8 * (h .order * h .order)) (λ e. c .if4 .taken (e ∙ sym (c .before .told .ensures)))))
+    (λ c. let start : tie.Start = search in let h = start .args .h in
+    rw (kind-right (search), order-some (search), order-small (search), ne-eqb (h .length) (16 + 8 * (h .order * h .order)) (λ e. c .if4 .taken (e ∙ sym (c .before .told .ensures)))))
     (λ c. omega arith)
-    (λ c. rw (kind-right (c .before .before .before .before .before), order-some (c .before .before .before .before), order-small (c .before .before .before), length-right (c .before), lt-ltb _ _ (c .if5 .taken)))
+    (λ c. rw (kind-right (search), order-some (search), order-small (search), length-right (c .before), lt-ltb _ _ (c .if5 .taken)))
     (λ c. omega arith)
-    (λ c. rw (kind-right (c .before .before .before .before .before .before), order-some (c .before .before .before .before .before), order-small (c .before .before .before .before), length-right (c .before .before), long-enough (c .before), lt-ltb _ _ (c .if6 .taken)))
-    (λ c. rw (kind-right (c .before .before .before .before .before .before), order-some (c .before .before .before .before .before), order-small (c .before .before .before .before), length-right (c .before .before), long-enough (c .before), le-ltb _ _ (c .if6 .left))))
+    (λ c. rw (kind-right (search), order-some (search), order-small (search), length-right (search), long-enough (c .before), lt-ltb _ _ (c .if6 .taken)))
+    (λ c. rw (kind-right (search), order-some (search), order-small (search), length-right (search), long-enough (c .before), le-ltb _ _ (c .if6 .left))))

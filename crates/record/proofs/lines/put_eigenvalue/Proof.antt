@@ -2,29 +2,42 @@
 use native.Mathlib.Omega.{arith}
 use borrow.Author.Needs.{needs}
 use lib.Ieee.{binary64, toBits}
-use Rattle.record.specs.Text.{ascii, number, pattern, newline, eigenvalueLine}
+use Prim.Native.Nat.{_≤_}
+use lib.ListN.{length}
+use Rattle.record.specs.Text.{ascii, decimal, number, pattern, newline, eigenvalueLine}
 use Rattle.record.specs.Page.{page}
 use Rattle.record.proofs.Digits.{decimal-32}
 use Rattle.record.proofs.Paging.{line-put}
 use Rattle.record.proofs.lines.put_eigenvalue.Statement.{statement}
 use Rattle.record.proofs.lines.put_eigenvalue.Tie as tie
 
+-- k has at most two digits
+digits : (c : tie.Start) → length (decimal (c .args .k)) ≤ 2
+digits c = decimal-32 _ (omega arith)
+
 returns : tie.Need-returns
 unfolding eigenvalueLine ascii
 returns c =
-    let x = c .before .before .before .before .before .before .before .before .before .before .before .before .before .before .before .before .before .before .before .before .before .before .before .before .args in (
+    let after-put-pattern2 : tie.After-put-pattern2 = search in
+    let after-bits-of2 : tie.After-bits-of2 = search in
+    let after-put-pattern : tie.After-put-pattern = search in
+    let after-bits-of : tie.After-bits-of = search in
+    let after-put-number : tie.After-put-number = search in
+    let after-put : tie.After-put = search in
+    let start : tie.Start = search in
+    let x = start .args in (
       line-put (page (x .at) (x .text .now)) (ascii "e") (number (x .k)) (pattern (toBits binary64 (x .re))) (pattern (toBits binary64 (x .im))) newline
-          (c .before .before .before .before .before .before .before .before .before .before .before .before .before .before .before .before .before .before .before .before .put .ensures .0) (c .before .before .before .before .before .before .before .before .before .before .before .before .before .before .before .before .put-number .ensures .0) (rw (c .before .before .before .before .before .before .before .before .before .before .before .before .bits-of .ensures) at (c .before .before .before .before .before .before .before .before .before .before .before .put-pattern .ensures .0)) (rw (c .before .before .before .before .before .before .before .bits-of2 .ensures) at (c .before .before .before .before .before .before .put-pattern2 .ensures .0)) (c .before .before .put-byte .ensures .0),
-      omega (arith, decimal-32 (x .k) (omega arith)),
+          (after-put .put .ensures .0) (after-put-number .put-number .ensures .0) (rw (after-bits-of .bits-of .ensures) at (after-put-pattern .put-pattern .ensures .0)) (rw (after-bits-of2 .bits-of2 .ensures) at (after-put-pattern2 .put-pattern2 .ensures .0)) (c .before .before .put-byte .ensures .0),
+      omega (arith, digits start),
     )
 
 pub put-eigenvalue-spec : {M : Type 1} → statement M
 put-eigenvalue-spec = tie.close (tie.spec (λ c. search needs)
     (λ c κs. omega arith)
-    (λ c κs. let x = c .before .before .before .before .before .before .before .args in omega (arith, decimal-32 (x .k) (omega arith)))
+    (λ c κs. omega (arith, digits (search)))
     (λ c κs. omega arith)
-    (λ c κs. let x = c .before .before .before .before .before .before .before .before .before .before .before .before .args in omega (arith, decimal-32 (x .k) (omega arith)))
+    (λ c κs. omega (arith, digits (search)))
     (λ c κs. omega arith)
-    (λ c κs. let x = c .before .before .before .before .before .before .before .before .before .before .before .before .before .before .before .before .before .args in omega (arith, decimal-32 (x .k) (omega arith)))
-    (λ c κs. let x = c .before .before .before .before .before .before .before .before .before .before .before .before .before .before .before .before .before .before .before .before .before .args in omega (arith, decimal-32 (x .k) (omega arith)))
+    (λ c κs. omega (arith, digits (search)))
+    (λ c κs. omega (arith, digits (search)))
     (λ c. search needs) returns)

@@ -16,11 +16,15 @@ abbrev μ-loop : tie.MeasureT-loop
 μ-loop text₀ at n re im behind₀ k₀ text behind k = n - k
 
 again : tie.Need-loop-again Inv-loop μ-loop
-again c = (omega arith, listing-more (c .before .before .before .before .before .before .before .loop .inv .1) (omega arith) (omega arith) (c .before .before .put-eigenvalue .ensures .0))
+again c =
+    let at-loop : tie.At-loop Inv-loop μ-loop = search in
+    (omega arith, listing-more (at-loop .loop .inv .1) (omega arith) (omega arith) (c .before .before .put-eigenvalue .ensures .0))
 
 returns : tie.Need-returns Inv-loop μ-loop
 unfolding eigenvalueLines
-returns c = let e : c .before .loop .k ≡ c .before .before .before .before .before .args .n = omega arith in (rw e at (c .before .loop .inv .1 .done), omega arith)
+returns c =
+    let start : tie.Start Inv-loop μ-loop = search in
+    let e : c .before .loop .k ≡ start .args .n = omega arith in (rw e at (c .before .loop .inv .1 .done), omega arith)
 
 pub put-eigenvalues-spec : {M : Type 1} → statement M
 put-eigenvalues-spec = tie.close (tie.spec Inv-loop μ-loop

@@ -3,27 +3,39 @@ use native.Mathlib.Omega.{arith}
 use borrow.Author.Needs.{needs}
 use mathlib.Core.List.{[], _∷_}
 use lib.Ieee.{binary64, toBits}
-use Rattle.record.specs.Text.{number, pattern, newline, entryLine}
+use Prim.Native.Nat.{_≤_}
+use lib.ListN.{length}
+use Rattle.record.specs.Text.{decimal, number, pattern, newline, entryLine}
 use Rattle.record.specs.Page.{page}
 use Rattle.record.proofs.Digits.{decimal-32}
 use Rattle.record.proofs.Paging.{line-put}
 use Rattle.record.proofs.lines.put_entry.Statement.{statement}
 use Rattle.record.proofs.lines.put_entry.Tie as tie
 
+-- row and column have at most two digits
+digits : (c : tie.Start) → let x = c .args in (length (decimal (x .row)) ≤ 2) × (length (decimal (x .col)) ≤ 2)
+digits c = (decimal-32 _ (omega arith), decimal-32 _ (omega arith))
+
 returns : tie.Need-returns
 unfolding entryLine
 returns c =
-    let x = c .before .before .before .before .before .before .before .before .before .before .before .before .before .before .before .before .before .before .before .before .before .before .args in (
+    let after-put-pattern : tie.After-put-pattern = search in
+    let after-bits-of : tie.After-bits-of = search in
+    let after-put-number2 : tie.After-put-number2 = search in
+    let after-put-number : tie.After-put-number = search in
+    let after-put-byte : tie.After-put-byte = search in
+    let start : tie.Start = search in
+    let x = start .args in (
       line-put (page (x .at) (x .text .now)) (x .letter ∷ []) (number (x .row)) (number (x .col)) (pattern (toBits binary64 (x .x))) newline
-          (c .before .before .before .before .before .before .before .before .before .before .before .before .before .before .before .before .before .before .before .put-byte .ensures .0) (c .before .before .before .before .before .before .before .before .before .before .before .before .before .before .before .put-number .ensures .0) (c .before .before .before .before .before .before .before .before .before .before .before .put-number2 .ensures .0) (rw (c .before .before .before .before .before .before .before .bits-of .ensures) at (c .before .before .before .before .before .before .put-pattern .ensures .0)) (c .before .before .put-byte2 .ensures .0),
-      omega (arith, decimal-32 (x .row) (omega arith), decimal-32 (x .col) (omega arith)),
+          (after-put-byte .put-byte .ensures .0) (after-put-number .put-number .ensures .0) (after-put-number2 .put-number2 .ensures .0) (rw (after-bits-of .bits-of .ensures) at (after-put-pattern .put-pattern .ensures .0)) (c .before .before .put-byte2 .ensures .0),
+      omega (arith, digits start),
     )
 
 pub put-entry-spec : {M : Type 1} → statement M
 put-entry-spec = tie.close (tie.spec (λ c κs. omega arith)
-    (λ c κs. let x = c .before .before .before .before .before .before .args in omega (arith, decimal-32 (x .row) (omega arith), decimal-32 (x .col) (omega arith)))
-    (λ c κs. let x = c .before .before .before .before .before .before .before .before .before .before .args in omega (arith, decimal-32 (x .row) (omega arith), decimal-32 (x .col) (omega arith)))
+    (λ c κs. omega (arith, digits (search)))
+    (λ c κs. omega (arith, digits (search)))
     (λ c κs. omega arith)
-    (λ c κs. let x = c .before .before .before .before .before .before .before .before .before .before .before .before .before .before .before .args in omega (arith, decimal-32 (x .row) (omega arith), decimal-32 (x .col) (omega arith)))
-    (λ c κs. let x = c .before .before .before .before .before .before .before .before .before .before .before .before .before .before .before .before .before .before .before .args in omega (arith, decimal-32 (x .row) (omega arith), decimal-32 (x .col) (omega arith)))
+    (λ c κs. omega (arith, digits (search)))
+    (λ c κs. omega (arith, digits (search)))
     (λ c. search needs) returns)

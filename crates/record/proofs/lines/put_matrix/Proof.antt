@@ -18,10 +18,14 @@ abbrev μ-loop : tie.MeasureT-loop
 μ-loop text₀ at letter n a behind₀ k₀ k-end text behind k = k-end - k
 
 found : (c : tie.After-put-entry-arg Inv-loop μ-loop) → Spot (c .before .before .before .before .before .args .n) (c .before .before .loop .k)
-found c = spot (c .before .before .before .before .before .args .n) (c .before .before .loop .k) (omega arith)
+found c =
+    let start : tie.Start Inv-loop μ-loop = search in
+    spot (start .args .n) (c .before .before .loop .k) (omega arith)
 
 again : tie.Need-loop-again Inv-loop μ-loop
-again c = (omega arith, listing-more (c .before .before .before .before .before .before .loop .inv .1) (omega arith) (omega arith) (c .before .before .put-entry .ensures .0))
+again c =
+    let at-loop : tie.At-loop Inv-loop μ-loop = search in
+    (omega arith, listing-more (at-loop .loop .inv .1) (omega arith) (omega arith) (c .before .before .put-entry .ensures .0))
 
 returns : tie.Need-returns Inv-loop μ-loop
 unfolding matrixLines
@@ -34,5 +38,5 @@ pub put-matrix-spec : {M : Type 1} → statement M
 put-matrix-spec = tie.close (tie.spec Inv-loop μ-loop
     (λ c. (omega arith, listing-none _ _ _ _))
     (λ c. omega (arith, found c)) (λ c. omega (arith, found c)) (λ c. omega arith) (λ c. omega arith)
-    (λ c κs. omega (arith, found (c .before), square-32 (c .before .before .before .before .before .before .args .n) (omega arith)))
+    (λ c κs. let start : tie.Start Inv-loop μ-loop = search in omega (arith, found (c .before), square-32 (start .args .n) (omega arith)))
     (λ c. omega arith) (λ c. omega arith) again (λ c. omega arith) returns)

@@ -10,8 +10,10 @@ use Rattle.record.proofs.lines.put_number.Tie as tie
 
 returns : tie.Need-returns
 returns c =
-    let x = c .before .before .before .before .before .before .before .before .before .args in
-    (both-put (page (x .at) (x .text .now)) (32 ∷ []) (decimal (x .n)) (c .before .before .before .before .before .before .put-byte .ensures .0) (c .before .before .put-decimal .ensures .0), omega arith)
+    let after-put-byte : tie.After-put-byte = search in
+    let start : tie.Start = search in
+    let x = start .args in
+    (both-put (page (x .at) (x .text .now)) (32 ∷ []) (decimal (x .n)) (after-put-byte .put-byte .ensures .0) (c .before .before .put-decimal .ensures .0), omega arith)
 
 pub put-number-spec : {M : Type 1} → statement M
 put-number-spec = tie.close (tie.spec (λ c κs. omega arith) (λ c κs. omega arith) (λ c. search needs) returns)

@@ -1,28 +1,39 @@
 -- `record::lines::put_passes` meets its contract. Assumes nothing.
 use native.Mathlib.Omega.{arith}
 use borrow.Author.Needs.{needs}
-use Rattle.record.specs.Text.{ascii, number, newline, passesLine}
+use Prim.Native.Nat.{_≤_}
+use lib.ListN.{length}
+use Rattle.record.specs.Text.{ascii, decimal, number, newline, passesLine}
 use Rattle.record.specs.Page.{page}
 use Rattle.record.proofs.Digits.{decimal-64}
 use Rattle.record.proofs.Paging.{line-put}
 use Rattle.record.proofs.lines.put_passes.Statement.{statement}
 use Rattle.record.proofs.lines.put_passes.Tie as tie
 
+-- neither number has more than 20 digits
+digits : (c : tie.Start) → let x = c .args in (length (decimal (x .n)) ≤ 20) × (length (decimal (x .passes)) ≤ 20)
+digits c = (decimal-64 _ (omega arith), decimal-64 _ (omega arith))
+
 returns : tie.Need-returns
 unfolding passesLine ascii
 returns c =
-    let x = c .before .before .before .before .before .before .before .before .before .before .before .before .before .before .before .before .before .before .before .before .before .before .before .args in (
+    let after-put-number2 : tie.After-put-number2 = search in
+    let after-put2 : tie.After-put2 = search in
+    let after-put-number : tie.After-put-number = search in
+    let after-put : tie.After-put = search in
+    let start : tie.Start = search in
+    let x = start .args in (
       line-put (page (x .at) (x .text .now)) (ascii "order") (number (x .n)) (ascii " passes") (number (x .passes)) newline
-          (c .before .before .before .before .before .before .before .before .before .before .before .before .before .before .before .before .before .before .before .put .ensures .0) (c .before .before .before .before .before .before .before .before .before .before .before .before .before .before .before .put-number .ensures .0) (c .before .before .before .before .before .before .before .before .before .before .put2 .ensures .0) (c .before .before .before .before .before .before .put-number2 .ensures .0) (c .before .before .put-byte .ensures .0),
-      omega (arith, decimal-64 (x .n) (omega arith), decimal-64 (x .passes) (omega arith)),
+          (after-put .put .ensures .0) (after-put-number .put-number .ensures .0) (after-put2 .put2 .ensures .0) (after-put-number2 .put-number2 .ensures .0) (c .before .before .put-byte .ensures .0),
+      omega (arith, digits start),
     )
 
 pub put-passes-spec : {M : Type 1} → statement M
 put-passes-spec = tie.close (tie.spec (λ c. search needs)
     (λ c κs. omega arith)
-    (λ c κs. let x = c .before .before .before .before .before .before .before .args in omega (arith, decimal-64 (x .n) (omega arith)))
+    (λ c κs. omega (arith, digits (search)))
     (λ c. search needs)
-    (λ c κs. let x = c .before .before .before .before .before .before .before .before .before .before .before .before .args in omega (arith, decimal-64 (x .n) (omega arith)))
-    (λ c κs. let x = c .before .before .before .before .before .before .before .before .before .before .before .before .before .before .before .before .args in omega (arith, decimal-64 (x .n) (omega arith), decimal-64 (x .passes) (omega arith)))
-    (λ c κs. let x = c .before .before .before .before .before .before .before .before .before .before .before .before .before .before .before .before .before .before .before .before .args in omega (arith, decimal-64 (x .n) (omega arith), decimal-64 (x .passes) (omega arith)))
+    (λ c κs. omega (arith, digits (search)))
+    (λ c κs. omega (arith, digits (search)))
+    (λ c κs. omega (arith, digits (search)))
     (λ c. search needs) returns)

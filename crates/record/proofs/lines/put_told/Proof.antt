@@ -1,27 +1,39 @@
 -- `record::lines::put_told` meets its contract. Assumes nothing.
 use native.Mathlib.Omega.{arith}
 use borrow.Author.Needs.{needs}
-use Rattle.record.specs.Text.{ascii, number, newline, refusedLine}
+use Prim.Native.Nat.{_≤_}
+use lib.ListN.{length}
+use Rattle.record.specs.Text.{ascii, decimal, number, newline, refusedLine}
 use Rattle.record.specs.Page.{page}
 use Rattle.record.proofs.Digits.{decimal-64}
 use Rattle.record.proofs.Paging.{line-put}
 use Rattle.record.proofs.lines.put_told.Statement.{statement}
 use Rattle.record.proofs.lines.put_told.Tie as tie
 
+-- none of the three numbers has more than 20 digits
+digits : (c : tie.Start) → let x = c .args .x in
+    (length (decimal (x .number)) ≤ 20) × (length (decimal (x .row)) ≤ 20) × (length (decimal (x .col)) ≤ 20)
+digits c = (decimal-64 _ (omega arith), decimal-64 _ (omega arith), decimal-64 _ (omega arith))
+
 returns : tie.Need-returns
 unfolding refusedLine ascii
 returns c =
-    let x = c .before .before .before .before .before .before .before .before .before .before .before .before .before .before .before .before .before .before .before .before .before .before .args in (
+    let after-put-number3 : tie.After-put-number3 = search in
+    let after-put-number2 : tie.After-put-number2 = search in
+    let after-put-number : tie.After-put-number = search in
+    let after-put : tie.After-put = search in
+    let start : tie.Start = search in
+    let x = start .args in (
       line-put (page (x .at) (x .text .now)) (ascii "refused") (number (x .x .number)) (number (x .x .row)) (number (x .x .col)) newline
-          (c .before .before .before .before .before .before .before .before .before .before .before .before .before .before .before .before .before .before .put .ensures .0) (c .before .before .before .before .before .before .before .before .before .before .before .before .before .before .put-number .ensures .0) (c .before .before .before .before .before .before .before .before .before .before .put-number2 .ensures .0) (c .before .before .before .before .before .before .put-number3 .ensures .0) (c .before .before .put-byte .ensures .0),
-      omega (arith, decimal-64 (x .x .number) (omega arith), decimal-64 (x .x .row) (omega arith), decimal-64 (x .x .col) (omega arith)),
+          (after-put .put .ensures .0) (after-put-number .put-number .ensures .0) (after-put-number2 .put-number2 .ensures .0) (after-put-number3 .put-number3 .ensures .0) (c .before .before .put-byte .ensures .0),
+      omega (arith, digits start),
     )
 
 pub put-told-spec : {M : Type 1} → statement M
 put-told-spec = tie.close (tie.spec (λ c. search needs)
     (λ c κs. omega arith)
-    (λ c κs. let x = c .before .before .before .before .before .before .before .args in omega (arith, decimal-64 (x .x .number) (omega arith)))
-    (λ c κs. let x = c .before .before .before .before .before .before .before .before .before .before .before .args in omega (arith, decimal-64 (x .x .number) (omega arith), decimal-64 (x .x .row) (omega arith)))
-    (λ c κs. let x = c .before .before .before .before .before .before .before .before .before .before .before .before .before .before .before .args in omega (arith, decimal-64 (x .x .number) (omega arith), decimal-64 (x .x .row) (omega arith), decimal-64 (x .x .col) (omega arith)))
-    (λ c κs. let x = c .before .before .before .before .before .before .before .before .before .before .before .before .before .before .before .before .before .before .before .args in omega (arith, decimal-64 (x .x .number) (omega arith), decimal-64 (x .x .row) (omega arith), decimal-64 (x .x .col) (omega arith)))
+    (λ c κs. omega (arith, digits (search)))
+    (λ c κs. omega (arith, digits (search)))
+    (λ c κs. omega (arith, digits (search)))
+    (λ c κs. omega (arith, digits (search)))
     (λ c. search needs) returns)

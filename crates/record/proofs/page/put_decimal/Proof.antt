@@ -12,10 +12,10 @@ made : (c : tie.After-decimal) → take (c .decimal .result) (c .decimal .last .
 made c = c .decimal .ensures .1 .1 ∙ decimal-digits _ _ (omega arith) (c .decimal .ensures .1 .0)
 
 put-requires : tie.Need-put-requires
-put-requires c κs = rw (made (c .before .before)) (omega (arith))
+put-requires c κs = rw (made (search)) (omega (arith))
 
 returns : tie.Need-returns
-returns c = (rw (made (c .before .before .before .before .before)) at (c .before .before .put .ensures .0), rw (made (c .before .before .before .before .before)) at (c .before .before .put .ensures .1))
+returns c = (rw (made (search)) at (c .before .before .put .ensures .0), rw (made (search)) at (c .before .before .put .ensures .1))
 
 pub put-decimal-spec : {M : Type 1} → statement M
 put-decimal-spec = tie.close (tie.spec (λ c κs. search needs) (λ c. search needs) (λ c. search needs) put-requires (λ c. search needs) returns)

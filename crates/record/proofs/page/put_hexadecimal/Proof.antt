@@ -12,10 +12,12 @@ made : (c : tie.After-hex) → take (c .hex .result) (c .hex .last .1 .1 .0) ≡
 made c = c .hex .ensures .1 .1 ∙ hexadecimal-digits _ _ (omega arith) (c .hex .ensures .1 .0)
 
 put-requires : tie.Need-put-requires
-put-requires c κs = rw (made (c .before .before)) (omega (arith, hexadecimal-length (c .before .before .before .before .before .args .w)))
+put-requires c κs =
+    let start : tie.Start = search in
+    rw (made (search)) (omega (arith, hexadecimal-length (start .args .w)))
 
 returns : tie.Need-returns
-returns c = (rw (made (c .before .before .before .before .before)) at (c .before .before .put .ensures .0), rw (made (c .before .before .before .before .before), hexadecimal-length) at (c .before .before .put .ensures .1))
+returns c = (rw (made (search)) at (c .before .before .put .ensures .0), rw (made (search), hexadecimal-length) at (c .before .before .put .ensures .1))
 
 pub put-hexadecimal-spec : {M : Type 1} → statement M
 put-hexadecimal-spec = tie.close (tie.spec (λ c κs. search needs) (λ c. search needs) (λ c. search needs) put-requires (λ c. search needs) returns)

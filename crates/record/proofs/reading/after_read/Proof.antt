@@ -24,10 +24,10 @@ good c = not-below (read (c .before)) (c .if1 .left)
 
 pub after-read-spec : {M : Type 1} → statement M
 after-read-spec = tie.close (tie.spec
-    (λ c. let s = c .before in broken (s .args .done) (s .args .room) (read s) (c .if1 .taken) ∙ same s)
+    (λ c. let s : tie.Start = search in broken (s .args .done) (s .args .room) (read s) (c .if1 .taken) ∙ same s)
     (λ c. (good c, fits-natAbs {w = w64} {w′ = w64} tt (sfits-toZ (fits-ofZ (c .before .fits .got)))))
-    (λ c. let s = c .before .before in ended (s .args .done) (s .args .room) (read s) (good (c .before)) (omega arith) ∙ same s)
+    (λ c. let s : tie.Start = search in ended (s .args .done) (s .args .room) (read s) (good (c .before)) (omega arith) ∙ same s)
     (λ c. omega arith)
-    (λ c. let s = c .before .before .before in some-came (s .args .done) (s .args .room) (read s) (good (c .before .before)) (c .before .if2 .left) (c .if3 .taken) ∙ same s)
+    (λ c. let s : tie.Start = search in some-came (s .args .done) (s .args .room) (read s) (good (search)) (c .before .if2 .left) (c .if3 .taken) ∙ same s)
     (λ c. omega arith)
-    (λ c. let s = c .before .before .before in all-came (s .args .done) (s .args .room) (read s) (good (c .before .before)) (c .before .if2 .left) (c .if3 .left) ∙ same s))
+    (λ c. let s : tie.Start = search in all-came (s .args .done) (s .args .room) (read s) (good (search)) (c .before .if2 .left) (c .if3 .left) ∙ same s))

@@ -14,8 +14,8 @@ returns c = let x = c .before .before .before .args in (none-printed _ (x .text 
 
 returns-2 : tie.Need-returns-2
 returns-2 c =
-    let put = c .before .before in
-    let short = put .before .before in
+    let put : tie.After-put-refused = search in
+    let short : tie.Then2 = search in
     let x = short .before .before .before .before .args in (
       all-printed _ (x .text .now) (short .before .if1 .left) (omega arith)
           (put .put-refused .ensures .0 ∙ ap (λ s. more s (page 0 (x .text .now))) (sym (short-text (x .input .now) (short .if2 .taken)))),
@@ -24,8 +24,8 @@ returns-2 c =
 
 returns-3 : tie.Need-returns-3
 returns-3 c =
-    let put = c .before .before in
-    let roomy = put .before .before .before in
+    let put : tie.After-put-record = search in
+    let roomy : tie.Else1 = search in
     let x = roomy .before .before .before .args in
     (all-printed _ (x .text .now) (roomy .if1 .left) (omega arith) (put .put-record .ensures .0), (omega arith, sym (length-take-le _ _ (omega arith))))
 

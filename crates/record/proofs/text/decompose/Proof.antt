@@ -8,10 +8,10 @@ use Rattle.record.proofs.text.decompose.Tie as tie
 returns : tie.Need-returns
 unfolding decomposed
 returns c =
-    let run = c .before .before .before .before .before .before in
-    let asked = run .before .before .before .before in
-    let read = asked .before .before .before in
-    let start = read .before .before .before .before .before .before in
+    let run : tie.After-try-new-in-place = search in
+    let asked : tie.After-of-bits = search in
+    let read : tie.After-decode = search in
+    let start : tie.Start = search in
     let x = start .args in
     let pre = start .pre in
     rw (asked .of-bits .ensures, decoded (x .entries .now) (x .t .now) _ (pre .0) (pre .1) (read .decode .ensures), pre .2, pre .3) at (run .try-new-in-place .ensures .0)

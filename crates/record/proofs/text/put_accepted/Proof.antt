@@ -8,10 +8,10 @@ use Rattle.record.proofs.text.put_accepted.Tie as tie
 returns : tie.Need-returns
 unfolding decomposedText
 returns c =
-    let read = c .before .before in
-    let q-put = read .before .before .before .before in
-    let t-put = q-put .before .before .before .before in
-    let passes-put = t-put .before .before .before .before in
+    let read : tie.After-put-read = search in
+    let q-put : tie.After-put-matrix2 = search in
+    let t-put : tie.After-put-matrix = search in
+    let passes-put : tie.After-put-passes = search in
     let two = both-put _ _ _ (passes-put .put-passes .ensures .0) (t-put .put-matrix .ensures .0) in
     let three = both-put _ _ _ two (q-put .put-matrix2 .ensures .0) in
     (both-put _ _ _ three (read .put-read .ensures .0), omega arith)

@@ -11,7 +11,9 @@ returns c = (rw (c .before .before .before .before .enum-told .given .1) (c .bef
 
 returns-2 : tie.Need-returns-2
 unfolding eigenvaluesText
-returns-2 c = (rw (c .before .before .before .before .before .checked .given .1) (c .before .before .put-not-read .ensures .0), omega arith)
+returns-2 c =
+    let after-checked : tie.After-checked = search in
+    (rw (after-checked .checked .given .1) (c .before .before .put-not-read .ensures .0), omega arith)
 
 pub put-answer-spec : {M : Type 1} → statement M
 put-answer-spec = tie.close (tie.spec (λ c. search needs) (λ c κs. omega arith) (λ c. search needs) (λ c κs. omega arith) (λ c. search needs) returns (λ c. search needs) returns-2)

@@ -7,11 +7,15 @@ use Rattle.record.proofs.text.put_decomposed.Tie as tie
 
 returns : tie.Need-returns
 unfolding decomposedText
-returns c = (rw (c .before .before .before .before .before .answer .given .1) (c .before .before .put-accepted .ensures .0), omega arith)
+returns c =
+    let after-answer : tie.After-answer = search in
+    (rw (after-answer .answer .given .1) (c .before .before .put-accepted .ensures .0), omega arith)
 
 returns-2 : tie.Need-returns-2
 unfolding decomposedText
-returns-2 c = (rw (c .before .before .before .before .before .answer2 .given .1) (c .before .before .put-refused .ensures .0), omega arith)
+returns-2 c =
+    let after-answer2 : tie.After-answer2 = search in
+    (rw (after-answer2 .answer2 .given .1) (c .before .before .put-refused .ensures .0), omega arith)
 
 pub put-decomposed-spec : {M : Type 1} → statement M
 put-decomposed-spec = tie.close (tie.spec (λ c. search needs) (λ c κs. omega arith) (λ c. search needs) (λ c κs. omega arith) (λ c. omega arith) returns (λ c. omega arith) returns-2)

@@ -14,30 +14,28 @@ small : (c : tie.Start) → c .args .h .order * c .args .h .order ≤ 1024
 small c = square-32 (c .args .h .order) (c .pre .1)
 
 -- from where the matrix is decomposed: the start; from where its text is put: the place behind the decomposition
-abbrev start : tie.After-decompose-arg2 → tie.Start
-start c = let cut = c .before .before in cut .before .before .before .before .before
-
-abbrev made : tie.After-q2 → tie.After-decompose
-made c = let back = c .before .before .before .before in back .before .before .before .before
-
 decompose-requires : tie.Need-decompose-requires
 decompose-requires c κs =
-    let s = small (start c) in
-    (start c .pre .2, sym (fresh-length _ 1024 s), fresh-zeros _ 1024 s, fresh-zeros _ 64 (omega arith))
+    let start : tie.Start = search in
+    let s = small start in
+    (start .pre .2, sym (fresh-length _ 1024 s), fresh-zeros _ 1024 s, fresh-zeros _ 64 (omega arith))
 
 put-requires : tie.Need-put-decomposed-requires
-put-requires c κs = omega (arith, fresh-length _ 1024 (small (start (made c .before))))
+put-requires c κs =
+    let after-decompose-arg2 : tie.After-decompose-arg2 = search in
+    omega (arith, fresh-length _ 1024 (small (start after-decompose-arg2)))
 
 returns : tie.Need-returns
 unfolding matrixText
 returns c =
-    let put = c .before .before .before .before in
-    let run = made (put .before) in
+    let after-decompose : tie.After-decompose = search in
+    let put : tie.After-put-decomposed = search in
+    let run = after-decompose in
     let x = start (run .before) .args in
     (put .put-decomposed .ensures .0 ∙ ap (λ o. more (decomposedText (x .h .order) (o .answer) (o .pair)) (page 0 (x .text .now))) (run .decompose .ensures), omega arith)
 
 pub put-passed-spec : {M : Type 1} → statement M
 put-passed-spec = tie.close (tie.spec (λ c. omega arith)
-    (λ c. small (c .before .before)) (λ c. fresh-length _ 1024 (small (c .before .before .before)))
-    (λ c. small (c .before .before .before)) (λ c. fresh-length _ 1024 (small (c .before .before .before .before)))
+    (λ c. small (search)) (λ c. fresh-length _ 1024 (small (search)))
+    (λ c. small (search)) (λ c. fresh-length _ 1024 (small (search)))
     (λ c. omega arith) (λ c. omega arith) (λ c. fresh-length _ 64 (omega arith)) decompose-requires put-requires (λ c. omega arith) returns)

@@ -8,21 +8,19 @@ use Rattle.record.proofs.text.put_read.Statement.{statement}
 use Rattle.record.proofs.text.put_read.Tie as tie
 
 -- from where the answer is put: the places behind the reader's call, and at the start
-abbrev read : tie.After-im2 → tie.After-complex-eigenvalues
-read c = let back = c .before .before .before .before in back .before .before .before
-
-abbrev start : tie.After-im2 → tie.Start
-start c = let cut = read c .before .before .before in cut .before .before .before .before
-
 requires : tie.Need-put-answer-requires
-requires c κs = omega (arith, fresh-length (start c .args .n) 32 (start c .pre .1))
+requires c κs =
+    let start : tie.Start = search in
+    omega (arith, fresh-length (start .args .n) 32 (start .pre .1))
 
 returns : tie.Need-returns
 unfolding readText
 returns c =
-    let put = c .before .before .before .before in
-    let x = start (put .before) .args in
-    let answered = rw (fresh-zeros (x .n) 32 (start (put .before) .pre .1)) at (read (put .before) .complex-eigenvalues .ensures) in
+    let after-complex-eigenvalues : tie.After-complex-eigenvalues = search in
+    let start : tie.Start = search in
+    let put : tie.After-put-answer = search in
+    let x = start .args in
+    let answered = rw (fresh-zeros (x .n) 32 (start .pre .1)) at (after-complex-eigenvalues .complex-eigenvalues .ensures) in
     (put .put-answer .ensures .0 ∙ ap (λ r. more (eigenvaluesText (x .n) (r .answer) (r .re) (r .im)) (page (x .at) (x .text .now))) answered, omega arith)
 
 pub put-read-spec : {M : Type 1} → statement M

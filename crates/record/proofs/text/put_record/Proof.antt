@@ -27,23 +27,23 @@ put-on c s = more s (page 0 (start c .args .text .now))
 
 requires : tie.Need-put-passed-requires
 requires c κs =
-    let told = c .before .before in
-    let check = told .before .before in
+    let told : tie.After-enum-told = search in
+    let check : tie.After-check = search in
     let fit = fitting (check .before .read-header .result) (length (input check)) (sym (check .check .ensures) ∙ told .enum-told .given .1) in
     (omega arith, fit .order, rw (entries-all (input check)) (omega (arith, fit .whole, length-drop 20 (input check))))
 
 returns : tie.Need-returns
 returns c =
-    let put = c .before .before in
-    let told = put .before .before .before in
-    let check = told .before .before in
+    let put : tie.After-put-refused = search in
+    let told : tie.After-r = search in
+    let check : tie.After-check = search in
     (put .put-refused .ensures .0 ∙ ap (put-on check) (sym (refused-text (input check) (start check .pre .1) (sym (checked check) ∙ told .r .given .1))), omega arith)
 
 returns-2 : tie.Need-returns-2
 returns-2 c =
-    let put = c .before .before in
-    let told = put .before .before .before in
-    let check = told .before .before in (
+    let put : tie.After-put-passed = search in
+    let told : tie.After-enum-told = search in
+    let check : tie.After-check = search in (
       rw (check .before .read-header .ensures .0, entries-all (input check)) at (put .put-passed .ensures .0)
           ∙ ap (put-on check) (sym (passed-text (input check) (start check .pre .1) (sym (checked check) ∙ told .enum-told .given .1))),
       omega arith,

@@ -22,8 +22,9 @@ turn c = column _ _ (omega arith) (omega arith)
 
 loop-again : tie.Need-loop-again Inv-loop μ-loop
 loop-again c =
-    let inv = c .before .before .before .before .before .before .before .before .loop .inv in
-    let here = turn (c .before .before .before .before .before .before .before) in
+    let at-loop : tie.At-loop Inv-loop μ-loop = search in
+    let inv = at-loop .loop .inv in
+    let here = turn (search) in
     down-more inv (omega arith)
     (rw (c .before .before .axpy .ensures, c .before .before .before .before .dot .ensures) (column-turn _ _ _ _ _ _ _ _ (inv .fits .inRows) (omega arith) (inv .from) (inv .done)))
 
@@ -34,8 +35,8 @@ reflect-with-sign-spec = tie.close (tie.spec Inv-loop μ-loop (λ c κs. omega a
     (λ c. down-begun _ _ _ _ _ _ _ (c .before .block-fits .ensures) (c .if1 .left))
     (λ c. omega (arith, turn c)) (λ c. omega (arith, turn c)) (λ c. omega (arith, turn c)) (λ c. omega (arith, turn c)) (λ c. omega (arith, turn c))
     (λ c. omega (arith, turn (c .before))) (λ c. omega (arith, turn (c .before)))
-    (λ c κs. omega (arith, turn (c .before .before)))
-    (λ c κs. omega (arith, turn (c .before .before .before .before)))
+    (λ c κs. omega (arith, turn (search)))
+    (λ c κs. omega (arith, turn (search)))
     (λ c. omega arith) (λ c. omega arith)
     loop-again
     (λ c. omega arith)

@@ -8,8 +8,10 @@ use Rattle.reflection.proofs.rows.put_eight.Tie as tie
 
 returns : tie.Need-returns
 returns c =
-    let x = c .before .before .before .before .before .before .before .before .before .before .before .args in
-    c .before .before .put-four2 .ensures ∙ ap (fourPut (x .factor) (x .w .lower) (x .sign) (x .p + 4)) (c .before .before .before .before .before .before .put-four .ensures)
+    let after-put-four : tie.After-put-four = search in
+    let start : tie.Start = search in
+    let x = start .args in
+    c .before .before .put-four2 .ensures ∙ ap (fourPut (x .factor) (x .w .lower) (x .sign) (x .p + 4)) (after-put-four .put-four .ensures)
 
 pub put-eight-spec : {M : Type 1} → statement M
 put-eight-spec = tie.close (tie.spec (λ c κs. omega arith) (λ c. omega arith) (λ c κs. omega arith) (λ c. omega arith) returns)

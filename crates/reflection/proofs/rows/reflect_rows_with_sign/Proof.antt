@@ -27,15 +27,19 @@ returns-2 c = rw (inside (from-row-0 _ _ _ _ (c .before .before .block-fits .ens
 returns-3 : tie.Need-returns-3
 unfolding reflectedRows onEntries
 returns-3 c =
-    let x = c .before .before .before .before .before .before .before .before .before .before .before .before .before .args in
-    let f = fitted (c .before .before .before .before .before .before .before .before .before) in
-    rw (inside (from-row-0 _ _ _ _ (c .before .before .before .before .before .before .before .before .before .before .block-fits .ensures)) (c .before .before .before .before .before .before .before .before .before .if1 .left))
-    (c .before .before .rows-left .ensures ∙ rows-more (x .a .now) (x .sign) _ _ _ _ _ (x .t .now) _ (f .size) (omega arith) (omega arith) (f .inRows) (f .inCols) (c .before .before .before .before .before .before .rows-by-eight .ensures))
+    let after-rows-by-eight : tie.After-rows-by-eight = search in
+    let else1 : tie.Else1 = search in
+    let after-block-fits : tie.After-block-fits = search in
+    let start : tie.Start = search in
+    let x = start .args in
+    let f = fitted (search) in
+    rw (inside (from-row-0 _ _ _ _ (after-block-fits .block-fits .ensures)) (else1 .if1 .left))
+    (c .before .before .rows-left .ensures ∙ rows-more (x .a .now) (x .sign) _ _ _ _ _ (x .t .now) _ (f .size) (omega arith) (omega arith) (f .inRows) (f .inCols) (after-rows-by-eight .rows-by-eight .ensures))
 
 pub reflect-rows-with-sign-spec : {M : Type 1} → statement M
 reflect-rows-with-sign-spec = tie.close (tie.spec
     (λ c κs. omega arith)
     returns
     returns-2
-    (λ c κs. let f = fitted (c .before .before) in omega arith) (λ c. let f = fitted (c .before .before .before .before .before .before) in omega arith) (λ c κs. let f = fitted (c .before .before .before .before .before .before) in omega arith) (λ c. omega arith)
+    (λ c κs. let f = fitted (search) in omega arith) (λ c. let f = fitted (search) in omega arith) (λ c κs. let f = fitted (search) in omega arith) (λ c. omega arith)
     returns-3)

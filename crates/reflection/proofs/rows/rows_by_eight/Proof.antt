@@ -21,9 +21,11 @@ loop-holds c = (omega arith, omega arith, sym (inBlock-no-rows _ _ _ (omega arit
 
 loop-again : tie.Need-loop-again Inv-loop μ-loop
 loop-again c =
-    let inv = c .before .before .before .before .before .loop .inv in
-    let x = c .before .before .before .before .before .before .before .before .args in
-    let e : (c .before .before .before .before .before .loop .b + 1) * 8 ≡ c .before .before .before .before .before .loop .b * 8 + 8 = omega arith in
+    let at-loop : tie.At-loop Inv-loop μ-loop = search in
+    let start : tie.Start Inv-loop μ-loop = search in
+    let inv = at-loop .loop .inv in
+    let x = start .args in
+    let e : (at-loop .loop .b + 1) * 8 ≡ at-loop .loop .b * 8 + 8 = omega arith in
     (omega arith, omega arith, rw (c .before .before .eight-rows .ensures, e) (rows-more (x .a .now) (x .sign) _ _ _ _ _ (x .t .now) _ (omega arith) (omega arith) (omega arith) (omega arith) (omega arith) (inv .2)))
 
 returns : tie.Need-returns Inv-loop μ-loop

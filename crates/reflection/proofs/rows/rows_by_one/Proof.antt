@@ -22,8 +22,10 @@ loop-holds c = (omega arith, omega arith, omega arith, sym (inBlock-no-rows _ _ 
 
 loop-again : tie.Need-loop-again Inv-loop μ-loop
 loop-again c =
-    let inv = c .before .before .before .before .before .loop .inv in
-    let x = c .before .before .before .before .before .before .before .before .args in
+    let at-loop : tie.At-loop Inv-loop μ-loop = search in
+    let start : tie.Start Inv-loop μ-loop = search in
+    let inv = at-loop .loop .inv in
+    let x = start .args in
     (omega arith, omega arith, omega arith, rw (c .before .before .one-row .ensures) (rows-more (x .a .now) (x .sign) _ _ _ _ _ (x .t .now) _ (omega arith) (omega arith) (omega arith) (omega arith) (omega arith) (inv .3)))
 
 returns : tie.Need-returns Inv-loop μ-loop

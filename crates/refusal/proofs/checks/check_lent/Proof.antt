@@ -13,14 +13,14 @@ returns c = next-first _ (c .before .before .check-length .ensures) (c .enum-tol
 returns-2 : tie.Need-returns-2
 unfolding lentLengths onlyIf
 returns-2 c =
-    let t = c .before .before .before in
+    let t : tie.After-check-length = search in
     let passed = c .before .enum-told .given .1 in
     next-then (t .check-length .ensures) passed (rw (not-true (t .before .args .wanted) (c .if1 .taken)) passed)
 
 returns-3 : tie.Need-returns-3
 unfolding lentLengths onlyIf
 returns-3 c =
-    let t = c .before .before .before .before in
+    let t : tie.After-check-length = search in
     next-then (t .check-length .ensures) (c .before .before .enum-told .given .1) (rw (not-false (t .before .args .wanted) (c .before .if1 .left)) (c .check-length2 .ensures))
 
 pub check-lent-spec : {M : Type 1} → statement M

@@ -29,9 +29,9 @@ pub first-not-finite-spec : {M : Type 1} → statement M
 unfolding firstNotFinite
 first-not-finite-spec = tie.close (tie.spec (λ c κs. omega arith) (λ c. rw (outside (whole (c .before)) (c .if1 .taken)))
     (λ c κs. omega arith)
-    (λ c. let x = c .before .before .before .before .before .args in
-    let fits = within _ _ _ _ (whole (c .before .before .before)) (c .before .before .if1 .left) in
-    rw (inside (whole (c .before .before .before)) (c .before .before .if1 .left))
+    (λ c. let start : tie.Start = search in let x = start .args in
+    let fits = within _ _ _ _ (whole (search)) (c .before .before .if1 .left) in
+    rw (inside (whole (search)) (c .before .before .if1 .left))
     (none (x .n) (x .t .now) (omega (arith, fits)) (omega (arith, fits)) (c .before .all-finite .ensures (c .if2 .taken))))
-    (λ c κs. omega (arith, within _ _ _ _ (whole (c .before .before .before)) (c .before .before .if1 .left)))
-    (λ c. rw (inside (whole (c .before .before .before .before)) (c .before .before .before .if1 .left)) (c .place-not-finite .ensures)))
+    (λ c κs. omega (arith, within _ _ _ _ (whole (search)) (c .before .before .if1 .left)))
+    (λ c. rw (inside (whole (search)) (c .before .before .before .if1 .left)) (c .place-not-finite .ensures)))

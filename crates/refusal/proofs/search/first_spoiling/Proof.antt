@@ -15,4 +15,4 @@ pub first-spoiling-spec : {M : Type 1} → statement M
 unfolding firstSpoiling
 first-spoiling-spec = tie.close (tie.spec (λ c κs. omega arith) (λ c. rw (outside (whole (c .before)) (c .if1 .taken)))
     (λ c κs. omega (arith, within _ _ _ _ (whole (c .before)) (c .if1 .left)))
-    (λ c. rw (inside (whole (c .before .before)) (c .before .if1 .left)) (c .place-spoiling .ensures)))
+    (λ c. rw (inside (whole (search)) (c .before .if1 .left)) (c .place-spoiling .ensures)))

@@ -18,7 +18,7 @@ tested c = c .is-zero .ensures ∙ ap isZero (c .before .entry .ensures ∙ entr
 returns-3 : tie.Need-returns-3
 returns-3 c =
     ap not (c .is-zero2 .ensures ∙ ap isZero (c .before .entry2 .ensures ∙ entryOf-there _ _ _ _ (omega arith) (omega arith) (omega arith) (omega arith)))
-    ∙ just-behind _ _ _ (sym (tested (c .before .before .before .before)) ∙ c .before .before .before .if1 .left) (omega arith)
+    ∙ just-behind _ _ _ (sym (tested (search)) ∙ c .before .before .before .if1 .left) (omega arith)
 
 pub just-below-spoils-spec : {M : Type 1} → statement M
 just-below-spoils-spec = tie.close (tie.spec (λ c. omega arith) (λ c κs. omega arith) (λ c κs. omega arith)

@@ -19,7 +19,9 @@ rest : (c : tie.After-gap) → (c .gap .result < 0xffff_ffff_ffff_ffff)
 rest c h = omega (arith, c .gap .ensures h, c .before .before .plus .ensures .0, c .before .square .ensures .0, scaled-words (c .before .before .before .args .top))
 
 returns : tie.Need-returns
-returns c = λ e. take-it _ _ _ (rest (c .before .before) (omega (arith, c .if2 .taken, c .before .before .before .before .before .pre))) (c .before .if1 .taken) (c .if2 .taken)
+returns c =
+    let start : tie.Start = search in
+    λ e. take-it _ _ _ (rest (search) (omega (arith, c .if2 .taken, start .pre))) (c .before .if1 .taken) (c .if2 .taken)
 
 returns-2 : tie.Need-returns-2
 returns-2 c = λ e. absurd (false≢true e)

@@ -19,32 +19,39 @@ float-to-bits-t c = below-no-nan _ _ (c .if3 .taken)
 -- the guess itself: its pattern is b + r
 returns-2 : tie.Need-returns-2
 returns-2 c =
-    let start = c .before .before .before .before .before .before .before .before .before in
-    let p = c .before .before .before .before .before .before .before .scaled .ensures .0 in
-    let g = c .before .before .before .before .before .guess in
+    let after-guess : tie.After-guess = search in
+    let after-scaled : tie.After-scaled = search in
+    let start : tie.Start = search in
+    let p = after-scaled .scaled .ensures .0 in
+    let g = after-guess .guess in
     back (g .result) _ (truth (g .ok)) (omega arith)
     ∙ answer _ _ _ _ (start .pre .0) (start .pre .1) p (c .before .nearest .ensures (c .if6 .taken)) .is
 
 -- what `beside` found
 found : (c : tie.After-beside)
-    → Answer (c .before .before .before .before .before .before .before .before .before .before .args .w)
-    (c .before .before .before .before .before .before .before .before .scaled .result .h)
-    (c .beside .result)
+    → let after-scaled : tie.After-scaled = search in let start : tie.Start = search in
+    Answer (start .args .w) (after-scaled .scaled .result .h) (c .beside .result)
 found c =
-    let start = c .before .before .before .before .before .before .before .before .before .before in
-    answer _ _ _ _ (start .pre .0) (start .pre .1) (c .before .before .before .before .before .before .before .before .scaled .ensures .0) (c .beside .ensures)
+    let after-scaled : tie.After-scaled = search in
+    let start : tie.Start = search in
+    answer _ _ _ _ (start .pre .0) (start .pre .1) (after-scaled .scaled .ensures .0) (c .beside .ensures)
 
 add-result-2 : tie.Need-add-result-2
-add-result-2 c = omega (arith, found c .high, c .before .before .before .before .before .before .before .before .scaled .ensures .0 .few)
+add-result-2 c =
+    let after-scaled : tie.After-scaled = search in
+    omega (arith, found c .high, after-scaled .scaled .ensures .0 .few)
 
 float-from-bits-result-2 : tie.Need-float-from-bits-result-2
-float-from-bits-result-2 c = no-pattern _ (omega (arith, found c .high, c .before .before .before .before .before .before .before .before .scaled .ensures .0 .few))
+float-from-bits-result-2 c =
+    let after-scaled : tie.After-scaled = search in
+    no-pattern _ (omega (arith, found c .high, after-scaled .scaled .ensures .0 .few))
 
 -- what `digits` found
 made : (c : tie.After-digits)
-    → Answer (c .before .before .before .before .before .before .args .w) (c .before .before .before .before .scaled .result .h) (c .digits .result)
+    → let after-scaled : tie.After-scaled = search in let start : tie.Start = search in
+    Answer (start .args .w) (after-scaled .scaled .result .h) (c .digits .result)
 made c =
-    let start = c .before .before .before .before .before .before in
+    let start : tie.Start = search in
     answer _ _ _ _ (start .pre .0) (start .pre .1) (c .before .before .before .before .scaled .ensures .0) (c .digits .ensures)
 
 add-result-3 : tie.Need-add-result-3

@@ -32,12 +32,15 @@ returns-4 c = own-root _ _ (truth (c .before .before .before .before .good .0 .1
 
 -- -0
 returns-5 : tie.Need-returns-5
-returns-5 c = own-root _ _ (truth (c .before .before .before .before .before .good .0 .1)) (c .if5 .taken) root-minus-zero
+returns-5 c =
+    let start : tie.Start = search in
+    own-root _ _ (truth (start .good .0 .1)) (c .if5 .taken) root-minus-zero
 
 -- below 0
 returns-6 : tie.Need-returns-6
 returns-6 c =
-    let h = truth (c .before .before .before .before .before .before .good .0 .1) in
+    let start : tie.Start = search in
+    let h = truth (start .good .0 .1) in
     c .not-a-number2 .ensures ∙ sym (root-else _ (omega arith) (c .before .if5 .left) (toBits-lt binary64 _ h)) ∙ ap rootOf (sym (back _ _ h refl))
 
 pub sqrt-spec : {M : Type 1} → statement M

@@ -9,7 +9,8 @@ use Rattle.scalar.proofs.words.gap.Tie as tie
 
 returns : tie.Need-returns
 returns c l =
-    let w = c .before .before .before .before .before .wrapping-sub-u64 .ensures in
+    let after-wrapping-sub-u64 : tie.After-wrapping-sub-u64 = search in
+    let w = after-wrapping-sub-u64 .wrapping-sub-u64 .ensures in
     ⊎-elim
     (λ k. gap-carry _ _ _ _ _ (omega arith) (omega arith) w (omega arith) (omega arith) (c .if2 .taken ∙ k .1))
     (λ k. gap-plain _ _ _ _ _ (omega arith) (omega arith) w (omega arith) (omega arith) (c .if2 .taken ∙ k .1))

@@ -19,7 +19,7 @@ returns c =
           ∙ ap (λ (v : ℕ). v + r / 2 ^ 27 * (r / 2 ^ 27) % 1024 * 2 ^ 54) (c .before .plus .ensures .0)
           ∙ squared (r / 2 ^ 27) (r % 2 ^ 27)
           ∙ ap (λ (v : ℕ). v * v) (div-add-mod' r (2 ^ 27)),
-      omega (arith, parts (c .before .before), c .before .plus .ensures .1, c .plus2 .ensures .1),
+      omega (arith, parts (search), c .before .plus .ensures .1, c .plus2 .ensures .1),
     )
 
 pub square-spec : {M : Type 1} → statement M

@@ -18,14 +18,14 @@ unfolding runOf workAfter
 returns c = (rw (outside (c .before .run-fits .ensures) (c .if1 .taken)), rw (outside (c .before .run-fits .ensures) (c .if1 .taken)))
 
 run-fitting-requires : tie.Need-run-fitting-requires
-run-fitting-requires c κs = let f = fitted (c .before .before .before) in (f .order, f .some, f .size)
+run-fitting-requires c κs = let f = fitted (search) in (f .order, f .some, f .size)
 
 returns-2 : tie.Need-returns-2
 unfolding runOf workAfter
 returns-2 c =
-    let cleared = c .before .before in
-    let ran = cleared .before .before .before .before .before .before .before .before in
-    let goes = ran .before .before .before .before in
+    let cleared : tie.After-fill = search in
+    let ran : tie.After-run-fitting = search in
+    let goes : tie.Else1 = search in
     let fits = inside (goes .before .run-fits .ensures) (goes .if1 .left) in
     (rw fits (ran .run-fitting .ensures), rw fits (cleared .fill .ensures ∙ filled-same zero _ _ (omega arith)))
 

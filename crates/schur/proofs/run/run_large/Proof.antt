@@ -7,28 +7,25 @@ use Rattle.schur.proofs.Answering.{answered-reached, answered-ended}
 use Rattle.schur.proofs.run.run_large.Statement.{statement}
 use Rattle.schur.proofs.run.run_large.Tie as tie
 
--- the places behind each call, from the run's end to the beginning
-abbrev begun : tie.After-run-from → tie.After-begin
-begun c = c .before .before .before .before .before .before .before .before .before .before
-
-abbrev start : tie.After-run-from → tie.Start
-start c = begun c .before .before .before .before .before .before .before
-
 -- the run's end
-ran : (c : tie.After-run-from) → let x = start c .args in running (c .run-from .result) (pair (c .run-from .last .1 .0) (c .run-from .last .1 .1 .0))
+ran : (c : tie.After-run-from) → let start : tie.Start = search in let x = start .args in running (c .run-from .result) (pair (c .run-from .last .1 .0) (c .run-from .last .1 .1 .0))
     ≡ runFrom (x .asked) (x .budget) (opened (x .asked) (pair (x .t .now) (x .q .now)) (x .work .now))
-ran c = let x = start c .args in c .run-from .ensures ∙ ap (runFrom (x .asked) (x .budget)) (begun c .begin .ensures .0 .0)
+ran c =
+    let begun : tie.After-begin = search in
+    let start : tie.Start = search in
+    c .run-from .ensures ∙ ap (runFrom (start .args .asked) (start .args .budget)) (begun .begin .ensures .0 .0)
 
 returns : tie.Need-returns
 returns c =
-    let reached = c .before in
-    answered-reached _ _ _ _ _ (ran (reached .before .before .before .before .before .before)) (reached .if1 .taken)
+    let reached : tie.Then1 = search in
+    answered-reached _ _ _ _ _ (ran (search)) (reached .if1 .taken)
 
 returns-2 : tie.Need-returns-2
 returns-2 c =
-    let goes = c .before .before .before .before in
-    let there = goes .before .before .before .before .before .before in
-    rw (c .before .before .scale-mut .ensures, begun there .begin .ensures .0 .1) (answered-ended _ _ _ _ _ (ran there) (goes .if1 .left))
+    let goes : tie.Else1 = search in
+    let there : tie.After-run-from = search in
+    let begun : tie.After-begin = search in
+    rw (c .before .before .scale-mut .ensures, begun .begin .ensures .0 .1) (answered-ended _ _ _ _ _ (ran there) (goes .if1 .left))
 
 pub run-large-spec : {M : Type 1} → statement M
 run-large-spec = tie.close (tie.spec (λ c κs. omega arith) (λ c κs. omega arith) (λ c. omega arith) (λ c. omega arith) (λ c. omega arith) returns

@@ -18,8 +18,10 @@ returns c =
 returns-2 : tie.Need-returns-2
 unfolding scaledDown
 returns-2 c =
-    let some : isZero (largest _) ≡ false = ap isZero (sym (c .before .before .before .before .before .before .camax .ensures)) ∙ sym (c .before .before .before .before .before .is-zero .ensures) ∙ c .before .before .before .before .if1 .left in
-    (c .before .before .before .before .before .before .camax .ensures, rw (some, c .before .before .unscale-mut .ensures, c .before .before .before .before .before .before .camax .ensures))
+    let after-is-zero : tie.After-is-zero = search in
+    let after-camax : tie.After-camax = search in
+    let some : isZero (largest _) ≡ false = ap isZero (sym (after-camax .camax .ensures)) ∙ sym (after-is-zero .is-zero .ensures) ∙ c .before .before .before .before .if1 .left in
+    (after-camax .camax .ensures, rw (some, c .before .before .unscale-mut .ensures, after-camax .camax .ensures))
 
 pub scale-down-spec : {M : Type 1} → statement M
 scale-down-spec = tie.close (tie.spec (λ c κs. omega arith) (λ c κs. omega arith) (λ c. omega arith) returns (λ c κs. omega arith) (λ c. omega arith) returns-2)

@@ -22,7 +22,8 @@ loop-again c = rw (c .of-bits .ensures, c .before .read-u64 .ensures) (rewriting
 
 returns-2 : tie.Need-returns-2 Inv-loop μ-loop
 returns-2 c =
-    let x = c .before .before .before .before .before .args in
+    let start : tie.Start Inv-loop μ-loop = search in
+    let x = start .args in
     let same = c .before .before .if1 .left in
     rw (eq-eqb _ _ same) (rewriting-done (c .before .loop .inv) (omega arith) ∙ reading-all (x .b .now) (x .a .now) same)
 

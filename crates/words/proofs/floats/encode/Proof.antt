@@ -26,11 +26,14 @@ returns-2 c =
     rw (ne-eqb (length (x .b .now)) (8 * length (x .a .now)) (λ e. c .if2 .taken (omega arith)))
 
 loop-again : tie.Need-loop-again Inv-loop μ-loop
-loop-again c = written-more (c .before .before .before .before .before .before .before .loop .inv) (omega arith) (c .before .before .before .bits-of .ensures) (c .before .before .write-u64 .ensures)
+loop-again c =
+    let at-loop : tie.At-loop Inv-loop μ-loop = search in
+    written-more (at-loop .loop .inv) (omega arith) (c .before .before .before .bits-of .ensures) (c .before .before .write-u64 .ensures)
 
 returns-3 : tie.Need-returns-3 Inv-loop μ-loop
 returns-3 c =
-    let x = c .before .before .before .before .before .before .args in
+    let start : tie.Start Inv-loop μ-loop = search in
+    let x = start .args in
     let same : length (x .b .now) ≡ 8 * length (x .a .now) = omega arith in
     rw (eq-eqb _ _ same) (written-done (c .before .loop .inv) (omega arith) same)
 

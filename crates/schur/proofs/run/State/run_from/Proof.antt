@@ -31,10 +31,11 @@ returns c =
 loop-again : tie.Need-loop-again Inv-loop μ-loop
 unfolding runFrom closed
 loop-again c =
-    let turned = c .before .before .before .before in
-    let goes = turned .before .before .before in
+    let start : tie.Start Inv-loop μ-loop = search in
+    let turned : tie.After-turn Inv-loop μ-loop = search in
+    let goes : tie.Else1 Inv-loop μ-loop = search in
     let l = goes .before .before .before .loop in
-    let x = goes .before .before .before .before .before .before .args in
+    let x = start .args in
     let still : closed (running (l .s) (pair (l .t) (l .q))) ≡ false = ne-eqb _ _ (goes .if1 .left) in
     let again = ap (runFrom (x .asked) (l .left - 1)) (turned .turn .ensures .0) in
     (omega arith, omega arith, omega arith, omega arith, omega arith, again ∙ sym (until-turn _ _ _ _ (omega arith) still) ∙ l .inv .5)

@@ -8,13 +8,13 @@ use Rattle.schur.proofs.run.State.turn.Tie as tie
 returns : tie.Need-returns
 unfolding turnOf
 returns c =
-    let turned = c .before .before .before .before in
+    let turned : tie.After-turn-two = search in
     (rw (le-leb _ _ (turned .before .before .before .if1 .taken)) (turned .turn-two .ensures .0), (omega arith, omega arith, omega arith))
 
 returns-2 : tie.Need-returns-2
 unfolding turnOf
 returns-2 c =
-    let turned = c .before .before .before .before in
+    let turned : tie.After-turn-more = search in
     (rw (lt-leb _ _ (turned .before .before .before .if1 .left)) (turned .turn-more .ensures .0), (omega arith, omega arith, omega arith))
 
 pub turn-spec : {M : Type 1} → statement M

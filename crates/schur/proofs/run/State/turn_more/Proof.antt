@@ -7,8 +7,8 @@ use Rattle.schur.proofs.run.State.turn_more.Tie as tie
 returns : tie.Need-returns
 unfolding turnMore
 returns c =
-    let counted = c .before .before in
-    let shifted = counted .before .before .before .before .before .before in
+    let counted : tie.After-after = search in
+    let shifted : tie.After-double-shift = search in
     (rw (← shifted .double-shift .ensures) (counted .after .ensures .0 _), (omega arith, omega arith, omega arith))
 
 pub turn-more-spec : {M : Type 1} → statement M

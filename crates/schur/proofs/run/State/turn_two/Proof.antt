@@ -7,14 +7,16 @@ use Rattle.schur.proofs.run.State.turn_two.Tie as tie
 
 returns : tie.Need-returns
 unfolding turnTwo
-returns c = (rw (le-leb _ _ (c .if1 .taken), ← c .before .before .before .before .before .split .ensures), (omega arith, omega arith, omega arith))
+returns c =
+    let after-split : tie.After-split = search in
+    (rw (le-leb _ _ (c .if1 .taken), ← after-split .split .ensures), (omega arith, omega arith, omega arith))
 
 returns-2 : tie.Need-returns-2
 unfolding turnTwo
 returns-2 c =
-    let counted = c .before .before in
-    let goes = counted .before .before in
-    let parted = goes .before .before .before .before .before in
+    let counted : tie.After-after = search in
+    let goes : tie.Else1 = search in
+    let parted : tie.After-split = search in
     (rw (lt-leb _ _ (goes .if1 .left), ← parted .split .ensures) (counted .after .ensures .0 _), (omega arith, omega arith, omega arith))
 
 pub turn-two-spec : {M : Type 1} → statement M
