@@ -9,8 +9,8 @@ use Rattle.refusal.specs.declared.refusal.Refusal.the-variants.{BudgetReached}
 use Rattle.refusal.specs.declared.refusal.Checked.{Checked}
 use Rattle.refusal.specs.declared.refusal.Checked.the-variants.{Passed, Refused}
 use Rattle.refusal.specs.Refusal.{toldOf}
-use Rattle.refusal.proofs.Checking.{refused-not-passed, Only, only-next, only-at}
-use Rattle.refusal.proofs.Passing.{only-asked}
+use Rattle.refusal.proofs.ChecksInTurn.{refused-not-passed, Only, only-next, only-at}
+use Rattle.refusal.proofs.PassedChecks.{only-asked}
 use Rattle.pass.specs.declared.setting.Setting.{Setting}
 use Rattle.pass.specs.Pair.{Pair, pair}
 use Rattle.schur.specs.Run.{Left, ranOf, countOf}
@@ -19,7 +19,7 @@ use Rattle.decomposition.specs.declared.Decomposed.{Decomposed}
 use Rattle.decomposition.specs.declared.Decomposed.the-variants.{Accepted, Declined}
 use Rattle.decomposition.specs.Checks.{argumentChecks, resultChecks}
 use Rattle.decomposition.specs.Decomposition.{verdict, passesOf, settled, decided, judged, entryOf, belowBudget}
-use Rattle.decomposition.proofs.Passing.{all-right, some-budget}
+use Rattle.decomposition.proofs.CheckedArguments.{all-right, some-budget}
 use Rattle.decomposition.proofs.Touched.{run-judged, accepted-passed, as-run, as-refused}
 
 -- ---- what is looked at after the run comes to 8 or 9 only

@@ -7,8 +7,8 @@ use lib.ListN.{length}
 use lib.Ieee.{Float}
 use Rattle.refusal.specs.declared.refusal.Checked.the-variants.{Passed}
 use Rattle.refusal.specs.Checks.{onlyIf}
-use Rattle.refusal.proofs.Checking.{refused-not-passed, next-passed, next-passes, next-on}
-use Rattle.refusal.proofs.Passing.{matrices-passed, matrices-passes}
+use Rattle.refusal.proofs.ChecksInTurn.{refused-not-passed, next-passed, next-passes, next-on}
+use Rattle.refusal.proofs.PassedChecks.{matrices-passed, matrices-passes}
 use Rattle.pass.specs.declared.setting.Setting.{Setting}
 use Rattle.pass.specs.Setting.{wanting}
 use Rattle.pass.specs.Pair.{Pair, pair}
@@ -19,7 +19,7 @@ use Rattle.schur.proofs.Independent.{ranOf-same}
 use Rattle.decomposition.specs.declared.Decomposed.the-variants.{Accepted}
 use Rattle.decomposition.specs.Checks.{allLengths, resultChecks}
 use Rattle.decomposition.specs.Decomposition.{verdict, passesOf, decompositionOf}
-use Rattle.decomposition.proofs.Passing.{all-right, right-passed}
+use Rattle.decomposition.proofs.CheckedArguments.{all-right, right-passed}
 use Rattle.decomposition.proofs.Touched.{checksOf, accepted-passed, as-run, accepted-run}
 
 -- ---- what passes with Q passes without

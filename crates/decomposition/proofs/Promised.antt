@@ -9,7 +9,7 @@ use Rattle.pass.specs.declared.setting.Setting.{Setting}
 use Rattle.pass.specs.Pair.{Pair}
 use Rattle.decomposition.specs.declared.Decomposed.{Decomposed}
 use Rattle.decomposition.specs.Decomposition.{outcome, decompositionOf, belowBudget, shaped}
-use Rattle.decomposition.proofs.Passing.{all-lent}
+use Rattle.decomposition.proofs.CheckedArguments.{all-lent}
 use Rattle.decomposition.proofs.Count.{count-below}
 use Rattle.decomposition.proofs.Shape.{shape-held}
 

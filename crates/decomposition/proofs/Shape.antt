@@ -9,7 +9,7 @@ use Rattle.refusal.specs.declared.refusal.Checked.the-variants.{Passed}
 use Rattle.refusal.specs.declared.search.Search.the-variants.{Nowhere}
 use Rattle.refusal.specs.Search.{firstNotFinite, firstSpoiling}
 use Rattle.refusal.specs.Shape.{AllFinite, QuasiTriangular}
-use Rattle.refusal.proofs.Checking.{refused-not-passed, next-passed, refuseAt-passed}
+use Rattle.refusal.proofs.ChecksInTurn.{refused-not-passed, next-passed, refuseAt-passed}
 use Rattle.refusal.proofs.Shape.{nowhere-finite, nowhere-shape}
 use Rattle.pass.specs.declared.setting.Setting.{Setting}
 use Rattle.pass.specs.Pair.{Pair}
@@ -19,7 +19,7 @@ use Rattle.decomposition.specs.declared.Decomposed.{Decomposed}
 use Rattle.decomposition.specs.declared.Decomposed.the-variants.{Accepted, Declined}
 use Rattle.decomposition.specs.Checks.{resultChecks}
 use Rattle.decomposition.specs.Decomposition.{verdict, entryOf, shaped}
-use Rattle.decomposition.proofs.Passing.{Sizes, all-right}
+use Rattle.decomposition.proofs.CheckedArguments.{Sizes, all-right}
 use Rattle.decomposition.proofs.Touched.{accepted-passed, as-run, t-square}
 
 -- ---- only a run that has ended passes, and where T and Q have passed

@@ -21,8 +21,8 @@ use Rattle.schur.specs.Run.{Left, ranOf}
 use Rattle.schur.proofs.Lengths.{ran-length}
 use Rattle.decomposition.specs.declared.Decomposed.the-variants.{Accepted, Declined}
 use Rattle.decomposition.specs.Checks.{allLengths, argumentChecks}
-use Rattle.decomposition.specs.Decomposition.{Outcome, outcome, verdict, passesOf, spoiled, settled, decided, judged, begun, entryOf, decompositionOf, placedOf}
-use Rattle.decomposition.proofs.Passing.{Sizes, all-right, all-lent, passed-judged, judged-work}
+use Rattle.decomposition.specs.Decomposition.{Outcome, outcome, verdict, passesOf, nanFilled, settled, decided, judged, begun, entryOf, decompositionOf, placedOf}
+use Rattle.decomposition.proofs.CheckedArguments.{Sizes, all-right, all-lent, passed-judged, judged-work}
 
 -- ---- as a run was judged, so it is answered
 
@@ -33,14 +33,14 @@ settled-accepted asked passes Passed p h = (refl, cc, refl)
 settled-accepted asked passes (Refused r) p h = (cc, cc, cc)
 
 settled-declined : {r : Refusal} (asked : Setting) (passes : ℕ) (checked : Checked) (p : Pair) → settled asked passes checked p .answer ≡ Declined r
-    → (checked ≡ Refused r) × (settled asked passes checked p .pair ≡ spoiled asked p)
+    → (checked ≡ Refused r) × (settled asked passes checked p .pair ≡ nanFilled asked p)
 unfolding settled
 settled-declined asked passes Passed p h = (cc, cc)
 settled-declined asked passes (Refused r) p h = (cc, refl)
 
 -- either way T and Q stay as long as the run left them
-spoiled-length : (asked : Setting) (p : Pair) → AsLong p (spoiled asked p)
-unfolding spoiled
+spoiled-length : (asked : Setting) (p : Pair) → AsLong p (nanFilled asked p)
+unfolding nanFilled
 spoiled-length asked p = record { t = filled-length nan (p .t); q = onQ-length (asked .wanted) (filled nan) (p .q) (filled-length nan (p .q)) }
 
 settled-length : (asked : Setting) (passes : ℕ) (checked : Checked) (p : Pair) → AsLong p (settled asked passes checked p .pair)
@@ -103,7 +103,7 @@ module _ (lengths : Checked) (asked : Setting) (budget : ℕ) (m : List Float) (
   accepted-run h k = ap (λ o. o .answer) (run-judged h) ∙ ap (λ c. settled asked (passesOf (ran .answer)) c (ran .pair) .answer) k
 
   -- refused after the run: T and Q are spoiled
-  pub as-refused : {r : Refusal} → checks ≡ Passed → whole .answer ≡ Declined r → (verdict asked (ran .answer) (ran .pair) ≡ Refused r) × (whole .pair ≡ spoiled asked (ran .pair))
+  pub as-refused : {r : Refusal} → checks ≡ Passed → whole .answer ≡ Declined r → (verdict asked (ran .answer) (ran .pair) ≡ Refused r) × (whole .pair ≡ nanFilled asked (ran .pair))
   unfolding judged decided
   as-refused h e = rw (run-judged h) (settled-declined _ _ _ _ (rw (run-judged h) at e))
 
@@ -129,11 +129,11 @@ module _ (lengths : Checked) (asked : Setting) (budget : ℕ) (m : List Float) (
 
     -- refused after the run: NaN in every entry of T, and of Q if it is wanted
     pub t-nan : {r : Refusal} → checks ≡ Passed → whole .answer ≡ Declined r → (i : ℕ) → i < length (p .t) → whole .pair .t ! i ≡ nan
-    unfolding spoiled
+    unfolding nanFilled
     t-nan h e i l = nan-throughout _ _ (ap (λ x. x .t) (as-refused h e .1)) i (omega (arith, lent-long .t))
 
     pub q-nan : {r : Refusal} → checks ≡ Passed → asked .wanted ≡ true → whole .answer ≡ Declined r → (i : ℕ) → i < length (p .q) → whole .pair .q ! i ≡ nan
-    unfolding spoiled
+    unfolding nanFilled
     q-nan h k e i l =
         nan-throughout _ _ (ap (λ x. x .q) (as-refused h e .1) ∙ ap (λ b. onQ b (filled nan) (ran .pair .q)) k) i (omega (arith, lent-long .q))
 

@@ -43,8 +43,8 @@ passesOf (BudgetReached window) = 0
 passesOf Unfit = 0
 
 -- refused: NaN in every entry of T, and of Q if it is wanted
-unfoldable pub spoiled : Setting → Pair → Pair
-spoiled asked p = pair (filled nan (p .t)) (onQ (asked .wanted) (filled nan) (p .q))
+unfoldable pub nanFilled : Setting → Pair → Pair
+nanFilled asked p = pair (filled nan (p .t)) (onQ (asked .wanted) (filled nan) (p .q))
 
 pub record Settlement : Type 0 where
   pub answer : Decomposed
@@ -55,7 +55,7 @@ settlement answer p = record { answer = answer; pair = p }
 
 unfoldable pub settled : Setting → (passes : ℕ) → Checked → Pair → Settlement
 settled asked passes Passed p = settlement (Accepted passes) p
-settled asked passes (Refused r) p = settlement (Declined r) (spoiled asked p)
+settled asked passes (Refused r) p = settlement (Declined r) (nanFilled asked p)
 
 -- a run that answered so, and left this T and Q
 unfoldable pub decided : Setting → Ran → Pair → Settlement

@@ -20,13 +20,13 @@ use Rattle.refusal.specs.Search.{firstRow, firstCol, firstPlace, notFinite, spo
 use Rattle.decomposition.specs.declared.Decomposed.{Decomposed}
 use Rattle.decomposition.specs.declared.Decomposed.the-variants.{Accepted, Declined}
 use Rattle.decomposition.specs.Checks.{toleranceFits, budgetFits, allLengths, argumentChecks, resultChecks}
-use Rattle.decomposition.specs.Decomposition.{Outcome, verdict, passesOf, spoiled, settled, decided, judged, begun, entryOf, decompositionOf, placedOf}
+use Rattle.decomposition.specs.Decomposition.{Outcome, verdict, passesOf, nanFilled, settled, decided, judged, begun, entryOf, decompositionOf, placedOf}
 
 -- every definition that a case computes with
 unfoldable pub openedDecomposition : Unit {0}
 unfolding openedSchur firstFrom isFinite toldOf refuse refuseAt _next_ firstRow firstCol firstPlace notFinite spoils firstNotFinite firstSpoiling
     orderChecks lengthCheck onlyIf lentLengths matrixLengths entryChecks
-    toleranceFits budgetFits allLengths argumentChecks resultChecks verdict passesOf spoiled settled decided judged begun entryOf
+    toleranceFits budgetFits allLengths argumentChecks resultChecks verdict passesOf nanFilled settled decided judged begun entryOf
 openedDecomposition = tt
 
 -- 0 and the count; or the number of the refusal and its place

@@ -11,7 +11,7 @@ ghost use Rattle.refusal.specs.Search.{firstNotFinite, firstSpoiling};
 ghost use Rattle.refusal.specs.Checks.{onlyIf, entryChecks};
 ghost use Rattle.schur.specs.Run.{ranOf, runFits};
 ghost use Rattle.decomposition.specs.Checks.{toleranceFits, budgetFits, allLengths, argumentChecks, resultChecks};
-ghost use Rattle.decomposition.specs.Decomposition.{outcome, verdict, passesOf, spoiled, settlement, settled, decided, judged, decompositionOf, placedOf, belowBudget, shaped};
+ghost use Rattle.decomposition.specs.Decomposition.{outcome, verdict, passesOf, nanFilled, settlement, settled, decided, judged, decompositionOf, placedOf, belowBudget, shaped};
 use pass::Setting;
 use refusal::Checked;
 use refusal::Refusal;
@@ -137,8 +137,8 @@ fn passes_of(ran: Ran) -> u64
 }
 
 // NaN in every entry of T, and of Q if it is wanted.
-fn spoil(t: &mut [f64], q: &mut [f64], asked: Setting)
-    ensures { λ _. ⌜ pair (now (t .exit)) (now (q .exit)) ≡ spoiled asked (pair (now (t .entry)) (now (q .entry))) ⌝ }
+fn fill_with_nan(t: &mut [f64], q: &mut [f64], asked: Setting)
+    ensures { λ _. ⌜ pair (now (t .exit)) (now (q .exit)) ≡ nanFilled asked (pair (now (t .entry)) (now (q .entry))) ⌝ }
 {
     let nan = scalar::not_a_number();
     matrix::fill(t, nan);
@@ -155,7 +155,7 @@ fn settle(checked: Checked, passes: u64, t: &mut [f64], q: &mut [f64], asked: Se
     match checked {
         Checked::Passed => Decomposed::Accepted(passes),
         Checked::Refused(r) => {
-            spoil(t, q, asked);
+            fill_with_nan(t, q, asked);
             Decomposed::Declined(r)
         }
     }

@@ -1,7 +1,7 @@
 -- `One`: two answers that a contract allows are one. For the proofs here: of the decomposition and of the entries that give lists, what follows where the checks on the
--- bytes have passed (`MatricesPassing`, `ListsPassing`), and what is answered with the bytes that are left (`MatricesAnswering`, `ListsAnswering`).
+-- bytes have passed (`MatrixLengths`, `ListLengths`), and what is answered with the bytes that are left (`MatrixBytes`, `ListBytes`).
 pub mod One
-mod MatricesPassing
-mod MatricesAnswering
-mod ListsPassing
-mod ListsAnswering
+mod MatrixLengths
+mod MatrixBytes
+mod ListLengths
+mod ListBytes

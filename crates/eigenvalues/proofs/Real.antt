@@ -16,14 +16,14 @@ use Rattle.refusal.specs.declared.refusal.Checked.{Checked}
 use Rattle.refusal.specs.declared.refusal.Checked.the-variants.{Passed, Refused}
 use Rattle.refusal.specs.Refusal.{toldOf, refuse, refuseAt, ifPassed}
 use Rattle.refusal.specs.Checks.{lengthCheck}
-use Rattle.refusal.proofs.Checking.{next-passed, next-passes, next-on, next-second, refuse-passed, refuse-refused, refuseAt-passed, Only, only-next, only-at}
-use Rattle.refusal.proofs.Passing.{order-passes, length-passed, length-passes, given-passed, given-passes, only-length, only-given}
+use Rattle.refusal.proofs.ChecksInTurn.{next-passed, next-passes, next-on, next-second, refuse-passed, refuse-refused, refuseAt-passed, Only, only-next, only-at}
+use Rattle.refusal.proofs.PassedChecks.{order-passes, length-passed, length-passes, given-passed, given-passes, only-length, only-given}
 use Rattle.refusal.proofs.Shape.{nowhere-finite, finite-nowhere, nowhere-shape, shape-nowhere}
 use Rattle.eigenvalues.specs.Blocks.{paired}
-use Rattle.eigenvalues.specs.Readers.{shapeCheck, readable, anyPaired, pairCheck, realChecks, diagonal, Read, read, listed, diagonalBy, realLengths, realRead, diagonalIfReal}
+use Rattle.eigenvalues.specs.Readers.{shapeCheck, readable, anyPaired, pairCheck, realChecks, diagonal, Read, read, leftBy, diagonalBy, realLengths, realRead, diagonalIfReal}
 use Rattle.eigenvalues.specs.Real.{Given, AllZeroBelow, OneNotZero, RealAnswer}
-use Rattle.eigenvalues.proofs.Answering.{paired-last, paired-by, paired-inside}
-use Rattle.eigenvalues.proofs.Checking.{readable-fit}
+use Rattle.eigenvalues.proofs.BlockAnswers.{paired-last, paired-by, paired-inside}
+use Rattle.eigenvalues.proofs.ReaderChecks.{readable-fit}
 
 -- ---- some block of two stands exactly if some entry just below the diagonal is not zero
 
@@ -105,16 +105,16 @@ module _ (n : ℕ) (t values : List Float) where
 
   -- on such a T it answers one of two: passed, or 'complex'
   pub given-answer : Given n t values → answer ≡ pairCheck n t
-  unfolding realRead realChecks listed
+  unfolding realRead realChecks leftBy
   given-answer g = next-on _ _ (given-readable g)
 
   -- the list by the answer
   passed-values : answer ≡ Passed → realRead n t values .values ≡ diagonal n t
-  unfolding realRead listed ifPassed
+  unfolding realRead leftBy ifPassed
   passed-values h = rw h
 
   refused-values : {r : Refusal} → answer ≡ Refused r → realRead n t values .values ≡ values
-  unfolding realRead listed ifPassed
+  unfolding realRead leftBy ifPassed
   refused-values h = rw h
 
   answers-real : Given n t values → AllZeroBelow n t → answer ≡ Passed
@@ -126,11 +126,11 @@ module _ (n : ℕ) (t values : List Float) where
   answers-complex g o = given-answer g ∙ ap (λ b. refuse b ComplexEigenvalues) (nonzero-any n t o)
 
   real-only : answer ≡ Passed → Given n t values × AllZeroBelow n t
-  unfolding realRead realChecks listed pairCheck
+  unfolding realRead realChecks leftBy pairCheck
   real-only h = let a = next-passed _ _ h in (readable-given (a .0), none-zero n t (refuse-passed _ _ (a .1)))
 
   complex-only : answer ≡ Refused ComplexEigenvalues → Given n t values × OneNotZero n t
-  unfolding realRead realChecks listed pairCheck
+  unfolding realRead realChecks leftBy pairCheck
   complex-only h =
       let a = next-second _ _ _ (readable-numbers lengths n t (lengths-numbers n _ _)) complex-own h in
       (readable-given (a .0), any-nonzero n t (refuse-refused _ _ (a .1)))

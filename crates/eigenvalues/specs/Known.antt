@@ -19,13 +19,13 @@ use Rattle.refusal.specs.Refusal.{toldOf, refuse, refuseAt, _next_, ifPassed}
 use Rattle.refusal.specs.Search.{firstRow, firstCol, firstPlace, firstOnDiagonal, notFinite, spoils, firstNotFinite, firstSpoiling}
 use Rattle.refusal.specs.Checks.{orderChecks, lengthCheck, entryChecks, givenChecks}
 use Rattle.eigenvalues.specs.Blocks.{paired, pairOf, answerAt, notComplex, upper, lower, follows, answerBefore, eigenvalueAt}
-use Rattle.eigenvalues.specs.Readers.{Read, ComplexRead, shapeCheck, readable, finiteReadable, anyPaired, pairCheck, realChecks, diagonal, listed, realLengths, realRead, realFiniteOf, diagonalIfReal, notFiniteAt, blockChecks, complexChecks, complexLengths, complexRead, complexFiniteOf}
+use Rattle.eigenvalues.specs.Readers.{Read, ComplexRead, shapeCheck, readable, finiteReadable, anyPaired, pairCheck, realChecks, diagonal, leftBy, realLengths, realRead, realFiniteOf, diagonalIfReal, notFiniteAt, blockChecks, complexChecks, complexLengths, complexRead, complexFiniteOf}
 
 -- every definition that a case computes with
 unfoldable pub openedReaders : Unit {0}
 unfolding opened until firstFrom table isFinite blockAt discriminant toldOf refuse refuseAt _next_ ifPassed
     firstRow firstCol firstPlace firstOnDiagonal notFinite spoils firstNotFinite firstSpoiling orderChecks lengthCheck entryChecks givenChecks
-    paired pairOf answerAt notComplex upper lower follows answerBefore eigenvalueAt shapeCheck readable finiteReadable anyPaired pairCheck realChecks diagonal listed realLengths realRead
+    paired pairOf answerAt notComplex upper lower follows answerBefore eigenvalueAt shapeCheck readable finiteReadable anyPaired pairCheck realChecks diagonal leftBy realLengths realRead
     realFiniteOf diagonalIfReal notFiniteAt blockChecks complexChecks complexLengths complexRead complexFiniteOf
     sub neg eq
 openedReaders = tt

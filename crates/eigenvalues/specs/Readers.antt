@@ -53,12 +53,12 @@ abbrev pub read : Checked → List Float → Read
 read answer values = record { answer = answer; values = values }
 
 -- what the lent list holds then: it is untouched where the answer is a refusal
-unfoldable pub listed : Read → List Float → Read
-listed r values = read (r .answer) (ifPassed (r .answer) (r .values) values)
+unfoldable pub leftBy : Read → List Float → Read
+leftBy r values = read (r .answer) (ifPassed (r .answer) (r .values) values)
 
 -- where the checks have come to c, the list is the diagonal
 abbrev pub diagonalBy : Checked → ℕ → (t values : List Float) → Read
-diagonalBy c n t values = listed (read c (diagonal n t)) values
+diagonalBy c n t values = leftBy (read c (diagonal n t)) values
 
 -- T, and one number for each row
 unfoldable pub realLengths : (n tn vn : ℕ) → Checked

@@ -7,7 +7,7 @@ use Prim.Native.Nat.{ℕ}
 use mathlib.Core.List.{List, [], _∷_, map}
 use lib.Ieee.{Float, binary64, ofBits, neg, sub, lt, eq}
 use Rattle.scalar.specs.Sign.{toExpOf}
-use Rattle.matrix.specs.Known.{read, shown, opened}
+use Rattle.matrix.specs.Known.{ofPatterns, shown, opened}
 use Rattle.givens.specs.declared.Rotation.{Rotation}
 use Rattle.givens.specs.declared.Turn.{Turn}
 use Rattle.givens.specs.declared.Made.{Made}
@@ -81,7 +81,7 @@ above =
 
 -- Rows 1 and 2 of columns 1 and 2. In column 1 the first turn has other bits where something is fused. In column 2 the identity keeps the -0, and its
 -- inverse makes +0 of it.
-rows : map (λ r. shown (rotated r 3 1 1 3 (read above))) turns
+rows : map (λ r. shown (rotated r 3 1 1 3 (ofPatterns above))) turns
     ≡ (0x4022_0000_0000_0000 ∷ 0x4022_0000_0000_0000 ∷ 0x4022_0000_0000_0000 ∷ 0x4022_0000_0000_0000 ∷ 0xbfe5_1eb8_51eb_8520
     ∷ 0x3fe3_d70a_3d70_a3d8 ∷ 0x4022_0000_0000_0000 ∷ 0xbfe9_9999_9999_999a ∷ 0x3fe3_3333_3333_3333 ∷ [])
     ∷ (0x4022_0000_0000_0000 ∷ 0x4022_0000_0000_0000 ∷ 0x4022_0000_0000_0000 ∷ 0x4022_0000_0000_0000 ∷ 0x3fb9_9999_9999_999a
@@ -99,7 +99,7 @@ beside =
 
 -- Columns 1 and 2 of the first two rows. In row 0 the first turn has other bits where something is fused. In row 1 the inverse of the identity keeps
 -- the -0, and the identity makes +0 of it.
-columns : map (λ r. shown (rotatedRows r 3 1 2 (read beside))) turns
+columns : map (λ r. shown (rotatedRows r 3 1 2 (ofPatterns beside))) turns
     ≡ (0x4022_0000_0000_0000 ∷ 0x4022_0000_0000_0000 ∷ 0x4022_0000_0000_0000 ∷ 0x3fe3_d70a_3d70_a3d8 ∷ 0x3fe9_9999_9999_999a
     ∷ 0x4022_0000_0000_0000 ∷ 0xbfe5_1eb8_51eb_8520 ∷ 0x3fe3_3333_3333_3333 ∷ 0x4022_0000_0000_0000 ∷ [])
     ∷ (0x4022_0000_0000_0000 ∷ 0x4022_0000_0000_0000 ∷ 0x4022_0000_0000_0000 ∷ 0x3fec_cccc_cccc_cccd ∷ 0
@@ -110,8 +110,8 @@ unfolding openedHere turns beside
 columns = refl
 
 -- a row, a column, a column, a row too many: unchanged
-outside : map (λ r. shown (rotated r 3 2 1 3 (read above))) turns ∷ map (λ r. shown (rotated r 3 1 1 4 (read above))) turns
-    ∷ map (λ r. shown (rotatedRows r 3 2 2 (read above))) turns ∷ map (λ r. shown (rotatedRows r 3 1 4 (read above))) turns ∷ []
+outside : map (λ r. shown (rotated r 3 2 1 3 (ofPatterns above))) turns ∷ map (λ r. shown (rotated r 3 1 1 4 (ofPatterns above))) turns
+    ∷ map (λ r. shown (rotatedRows r 3 2 2 (ofPatterns above))) turns ∷ map (λ r. shown (rotatedRows r 3 1 4 (ofPatterns above))) turns ∷ []
     ≡ (above ∷ above ∷ above ∷ []) ∷ (above ∷ above ∷ above ∷ []) ∷ (above ∷ above ∷ above ∷ []) ∷ (above ∷ above ∷ above ∷ []) ∷ []
 unfolding openedHere turns above
 outside = refl

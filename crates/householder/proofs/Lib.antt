@@ -1,5 +1,5 @@
 -- Laws that other crates may cite. `Ways`: the axis by its three ways, and that it is as long as its column.
 pub mod Ways
 pub mod Frames
-mod Diagonal
+mod Identity
 mod Empty

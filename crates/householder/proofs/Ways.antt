@@ -20,15 +20,15 @@ use Rattle.scalar.specs.Class.{isZero}
 use Rattle.matrix.specs.Sum.{Order}
 use Rattle.matrix.specs.Vectors.{normSquared, normOf, unscaled, normalized}
 use Rattle.matrix.proofs.Each.{eachTo-length}
-use Rattle.householder.specs.Axis.{told, signedNorm, factorOf, shifted, Way, Reflected, AllZero, TooSmall, allZero, wayOf, inWay, axisOf}
+use Rattle.householder.specs.Axis.{axisAnswer, signedNorm, factorOf, shifted, Way, Reflected, AllZero, TooSmall, allZero, wayOf, inWay, axisOf}
 
 -- a column without a number
-pub axis-empty : (sum : Order) (c : List Float) → length c ≡ 0 → told c zeroF false ≡ axisOf sum c
+pub axis-empty : (sum : Order) (c : List Float) → length c ≡ 0 → axisAnswer c zeroF false ≡ axisOf sum c
 unfolding axisOf
 axis-empty sum c h = rw (eq-eqb _ _ h)
 
 -- "all zero" and "too small" are told alike
-alike : (sum : Order) (c : List Float) (b : Bool) → inWay sum c (cond b AllZero TooSmall) ≡ told (shifted sum c) (signedNorm sum c) false
+alike : (sum : Order) (c : List Float) (b : Bool) → inWay sum c (cond b AllZero TooSmall) ≡ axisAnswer (shifted sum c) (signedNorm sum c) false
 unfolding inWay
 alike sum c true = refl
 alike sum c false = refl
@@ -54,13 +54,13 @@ unfolding signedNorm factorOf normOf
 measured sum c sq x f h a m = record { some = h; norm = m .0 ∙ rw a; factor = m .1 ∙ rw a }
 
 -- no reflection: the factor is zero
-pub axis-none : {sum : Order} {c : List Float} {x f : Float} → Measured sum c x f → isZero f ≡ true → told (set c 0 ((c ! 0) ⊕ x)) x false ≡ axisOf sum c
+pub axis-none : {sum : Order} {c : List Float} {x f : Float} → Measured sum c x f → isZero f ≡ true → axisAnswer (set c 0 ((c ! 0) ⊕ x)) x false ≡ axisOf sum c
 unfolding shifted
 axis-none {sum} {c} {x} {f} m z = sym (axis-by sum c true (m .some) (rw (← m .factor) z) ∙ alike sum c (allZero c) ∙ rw (m .norm))
 
 -- a reflection: the factor is not zero
 pub axis-made : {sum : Order} {c : List Float} {x f : Float} → Measured sum c x f → isZero f ≡ false
-    → told (normalized sum (unscaled (rootOf f) (set c 0 ((c ! 0) ⊕ x)))) (neg x) true ≡ axisOf sum c
+    → axisAnswer (normalized sum (unscaled (rootOf f) (set c 0 ((c ! 0) ⊕ x)))) (neg x) true ≡ axisOf sum c
 unfolding shifted inWay
 axis-made {sum} {c} {x} {f} m z = sym (axis-by sum c false (m .some) (rw (← m .factor) z) ∙ rw (m .norm, m .factor))
 
@@ -80,7 +80,7 @@ pub axis-length : (sum : Order) (c : List Float) → length (axisOf sum c .axis)
 unfolding axisOf
 axis-length sum c = go (eqb (length c) 0)
   where
-    go : (b : Bool) → length (cond b (told c zeroF false) (inWay sum c (wayOf sum c)) .axis) ≡ length c
+    go : (b : Bool) → length (cond b (axisAnswer c zeroF false) (inWay sum c (wayOf sum c)) .axis) ≡ length c
     go true = refl
     go false = inWay-length sum c (wayOf sum c)
 

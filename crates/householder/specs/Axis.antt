@@ -15,13 +15,13 @@ use Rattle.matrix.specs.Sum.{Order}
 use Rattle.matrix.specs.Vectors.{normSquared, normOf, unscaled, normalized}
 
 -- what the routine leaves: the column rewritten, what would be its first number after the reflection, and whether there is a reflection
-pub record Told : Type 0 where
+pub record AxisAnswer : Type 0 where
   pub axis : List Float
   pub norm : Float
   pub reflected : Bool
 
-abbrev pub told : List Float → Float → Bool → Told
-told c x b = record { axis = c; norm = x; reflected = b }
+abbrev pub axisAnswer : List Float → Float → Bool → AxisAnswer
+axisAnswer c x b = record { axis = c; norm = x; reflected = b }
 
 -- the norm with the sign of the column's first number
 unfoldable pub signedNorm : Order → List Float → Float
@@ -50,11 +50,11 @@ wayOf sum c = cond (isZero (factorOf sum c)) (cond (allZero c) AllZero TooSmall)
 
 -- Reflected: divided by the root of the factor, and then by the norm that is left; the norm's sign is turned. Else the shifted column and the
 -- signed norm as they are.
-unfoldable pub inWay : Order → List Float → Way → Told
-inWay sum c Reflected = told (normalized sum (unscaled (rootOf (factorOf sum c)) (shifted sum c))) (neg (signedNorm sum c)) true
-inWay sum c AllZero = told (shifted sum c) (signedNorm sum c) false
-inWay sum c TooSmall = told (shifted sum c) (signedNorm sum c) false
+unfoldable pub inWay : Order → List Float → Way → AxisAnswer
+inWay sum c Reflected = axisAnswer (normalized sum (unscaled (rootOf (factorOf sum c)) (shifted sum c))) (neg (signedNorm sum c)) true
+inWay sum c AllZero = axisAnswer (shifted sum c) (signedNorm sum c) false
+inWay sum c TooSmall = axisAnswer (shifted sum c) (signedNorm sum c) false
 
 -- a column without a number has no axis
-unfoldable pub axisOf : Order → List Float → Told
-axisOf sum c = cond (eqb (length c) 0) (told c zero false) (inWay sum c (wayOf sum c))
+unfoldable pub axisOf : Order → List Float → AxisAnswer
+axisOf sum c = cond (eqb (length c) 0) (axisAnswer c zero false) (inWay sum c (wayOf sum c))

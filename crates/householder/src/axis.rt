@@ -1,12 +1,12 @@
 // The axis of the reflection that takes a column to a multiple of the first unit vector.
 ghost use mathlib.Core.Path.{_≡_};
-ghost use Rattle.loops.specs.Constants.{two as twoF};
+ghost use Rattle.loops.specs.Constants.{two};
 ghost use Rattle.loops.specs.Rounded.{_⊕_, _⊗_};
 ghost use Rattle.scalar.specs.Root.{rootOf};
 ghost use Rattle.scalar.specs.Sign.{toExpOf};
 ghost use Rattle.matrix.specs.Sum.{bare, lanes};
-ghost use Rattle.matrix.specs.Vectors.{two, three};
-ghost use Rattle.householder.specs.Axis.{told, axisOf};
+ghost use Rattle.matrix.specs.Vectors.{list2, list3};
+ghost use Rattle.householder.specs.Axis.{axisAnswer, axisOf};
 use matrix::Vector2;
 use matrix::Vector3;
 
@@ -41,7 +41,7 @@ struct Measured {
 fn measure(squares: f64, first: f64) -> Measured
     ensures { λ r.
         ⌜ (r .norm ≡ toExpOf first .sign ⊗ rootOf squares)
-        × (r .factor ≡ (squares ⊕ toExpOf first .magnitude ⊗ rootOf squares) ⊗ twoF) ⌝ }
+        × (r .factor ≡ (squares ⊕ toExpOf first .magnitude ⊗ rootOf squares) ⊗ two) ⌝ }
 {
     let norm = scalar::sqrt(squares);
     let exp = scalar::to_exp(first);
@@ -53,7 +53,7 @@ fn measure(squares: f64, first: f64) -> Measured
 
 // The column is rewritten: it becomes the axis, of length 1. An empty one has none.
 pub fn reflection_axis_mut(column: &mut [f64]) -> Axis
-    ensures { λ r. ⌜ told (now (column .exit)) (r .norm) (r .reflected) ≡ axisOf lanes (now (column .entry)) ⌝ }
+    ensures { λ r. ⌜ axisAnswer (now (column .exit)) (r .norm) (r .reflected) ≡ axisOf lanes (now (column .entry)) ⌝ }
 {
     if column.len() == 0 {
         return Axis {
@@ -83,7 +83,7 @@ pub fn reflection_axis_mut(column: &mut [f64]) -> Axis
 
 // For a column of three numbers, whose sums have no leading zero but the norm's.
 pub fn reflection_axis3(column: Vector3) -> Axis3
-    ensures { λ r. ⌜ told (three (r .axis)) (r .norm) (r .reflected) ≡ axisOf bare (three column) ⌝ }
+    ensures { λ r. ⌜ axisAnswer (list3 (r .axis)) (r .norm) (r .reflected) ≡ axisOf bare (list3 column) ⌝ }
 {
     let m = measure(column.norm_squared(), column.x);
     let shifted = Vector3 {
@@ -107,7 +107,7 @@ pub fn reflection_axis3(column: Vector3) -> Axis3
 
 // For one of two.
 pub fn reflection_axis2(column: Vector2) -> Axis2
-    ensures { λ r. ⌜ told (two (r .axis)) (r .norm) (r .reflected) ≡ axisOf bare (two column) ⌝ }
+    ensures { λ r. ⌜ axisAnswer (list2 (r .axis)) (r .norm) (r .reflected) ≡ axisOf bare (list2 column) ⌝ }
 {
     let m = measure(column.norm_squared(), column.x);
     let shifted = Vector2 {

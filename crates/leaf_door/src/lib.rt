@@ -3,7 +3,7 @@
 ghost use mathlib.Core.Path.{_≡_};
 ghost use Rattle.matrix.specs.Sum.{lanes, bare};
 ghost use Rattle.loops.specs.Constants.{one};
-ghost use Rattle.matrix.specs.Vectors.{dotOf, three};
+ghost use Rattle.matrix.specs.Vectors.{dotOf, list3};
 ghost use Rattle.givens.specs.Rotation.{rotation};
 ghost use Rattle.givens.specs.Rotated.{rotated, rotatedRows};
 ghost use Rattle.reflection.specs.Reflected.{reflected, reflectedRows};
@@ -69,7 +69,7 @@ pub extern "C" fn manulsek_leaf_reflect3(
     c0: usize,
     c1: usize,
 )
-    ensures { λ _. ⌜ now (t .exit) ≡ reflected bare (three (record { x = x; y = y; z = z })) one n row c0 c1 (now (t .entry)) ⌝ }
+    ensures { λ _. ⌜ now (t .exit) ≡ reflected bare (list3 (record { x = x; y = y; z = z })) one n row c0 c1 (now (t .entry)) ⌝ }
 {
     reflection::reflect3(Vector3 { x, y, z }, t, n, row, c0, c1);
 }
@@ -84,7 +84,7 @@ pub extern "C" fn manulsek_leaf_reflect_rows3(
     rows: usize,
     c0: usize,
 )
-    ensures { λ _. ⌜ now (t .exit) ≡ reflectedRows (three (record { x = x; y = y; z = z })) one n rows c0 (now (t .entry)) ⌝ }
+    ensures { λ _. ⌜ now (t .exit) ≡ reflectedRows (list3 (record { x = x; y = y; z = z })) one n rows c0 (now (t .entry)) ⌝ }
 {
     reflection::reflect_rows3(Vector3 { x, y, z }, t, n, rows, c0);
 }

@@ -9,7 +9,7 @@ use lib.Ieee.{Float}
 use Rattle.loops.specs.Part.{part}
 use Rattle.loops.specs.Rounded.{_⊕_}
 use Rattle.loops.specs.Times.{times, times-same, range}
-use Rattle.matrix.specs.Sum.{lane, joined, lanes}
+use Rattle.matrix.specs.Sum.{lane, lanesSummed, lanes}
 use Rattle.matrix.specs.Vectors.{products, dotOf}
 use Rattle.matrix.proofs.Sums.{lane-more, dotOf-is}
 
@@ -50,7 +50,7 @@ moved-more {x} {y} {u} {v} {b} m h = record {
 }
 
 -- where no block is left, the terms of the parts are the ones that are added one by one
-pub moved-done : {x y u v : List Float} {b : ℕ} → Moved x y u v b → (j : ℕ) (s : Float) → j ≡ length u → length u < 8 → s ≡ joined (products x y) b
+pub moved-done : {x y u v : List Float} {b : ℕ} → Moved x y u v b → (j : ℕ) (s : Float) → j ≡ length u → length u < 8 → s ≡ lanesSummed (products x y) b
     → times (λ i d. d ⊕ products u v i) j s ≡ dotOf x y
 unfolding lanes range
 moved-done {x} {y} {u} {v} {b} m j s k h q =

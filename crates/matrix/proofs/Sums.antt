@@ -10,7 +10,7 @@ use lib.Ieee.{Float}
 use Rattle.loops.specs.Constants.{zero as zeroF}
 use Rattle.loops.specs.Rounded.{_⊕_}
 use Rattle.loops.specs.Times.{times-none, times-more, times-same, range}
-use Rattle.matrix.specs.Sum.{bare, lane, joined, lanes}
+use Rattle.matrix.specs.Sum.{bare, lane, lanesSummed, lanes}
 use Rattle.matrix.specs.Vectors.{products, dotOf}
 
 -- ---- left to right, the first term bare
@@ -56,8 +56,8 @@ unfolding lane
 lane-same f g l b h = times-same _ _ _ _ (λ i x k. ap (λ e. x ⊕ e) (h i k))
 
 -- the eight accumulators are made of the terms of their blocks
-pub joined-same : (f g : ℕ → Float) (b : ℕ) → ((i : ℕ) → i < b * 8 → f i ≡ g i) → joined f b ≡ joined g b
-unfolding joined
+pub joined-same : (f g : ℕ → Float) (b : ℕ) → ((i : ℕ) → i < b * 8 → f i ≡ g i) → lanesSummed f b ≡ lanesSummed g b
+unfolding lanesSummed
 joined-same f g b h =
     rw (
       at 0 (omega arith),

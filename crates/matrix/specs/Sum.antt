@@ -21,8 +21,8 @@ unfoldable pub lane : (ℕ → Float) → (l b : ℕ) → Float
 lane f l b = times (λ k d. d ⊕ f (k * 8 + l)) b zeroF
 
 -- the eight accumulators after b blocks, added in pairs to a leading zero
-unfoldable pub joined : (ℕ → Float) → ℕ → Float
-joined f b =
+unfoldable pub lanesSummed : (ℕ → Float) → ℕ → Float
+lanesSummed f b =
     zeroF
     ⊕ (lane f 0 b ⊕ lane f 4 b)
     ⊕ (lane f 1 b ⊕ lane f 5 b)
@@ -31,4 +31,4 @@ joined f b =
 
 -- Eight accumulators over the whole blocks of eight, joined; then the terms that are left, one by one.
 unfoldable pub lanes : ℕ → (ℕ → Float) → Float
-lanes k f = range (λ i d. d ⊕ f i) (k / 8 * 8) k (joined f (k / 8))
+lanes k f = range (λ i d. d ⊕ f i) (k / 8 * 8) k (lanesSummed f (k / 8))

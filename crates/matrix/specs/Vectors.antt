@@ -16,11 +16,11 @@ use Rattle.matrix.specs.declared.vector.Vector2.{Vector2}
 use Rattle.matrix.specs.declared.vector.Vector3.{Vector3}
 
 -- a vector of two and of three as a list: what is defined on lists holds for them, with the order `bare`
-abbrev pub two : Vector2 → List Float
-two v = v .x ∷ v .y ∷ []
+abbrev pub list2 : Vector2 → List Float
+list2 v = v .x ∷ v .y ∷ []
 
-abbrev pub three : Vector3 → List Float
-three v = v .x ∷ v .y ∷ v .z ∷ []
+abbrev pub list3 : Vector3 → List Float
+list3 v = v .x ∷ v .y ∷ v .z ∷ []
 
 -- the terms of a dot product
 abbrev pub products : List Float → List Float → ℕ → Float

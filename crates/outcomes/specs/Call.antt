@@ -4,7 +4,7 @@ use mathlib.Core.Bool.{true}
 use mathlib.Core.List.{List, [], _∷_}
 use lib.Ieee.{ofBits, binary64}
 use Rattle.loops.specs.Times.{times}
-use Rattle.matrix.specs.Known.{read, shown}
+use Rattle.matrix.specs.Known.{ofPatterns, shown}
 use Rattle.pass.specs.Setting.{setting}
 use Rattle.pass.specs.Pair.{pair}
 use Rattle.refusal.specs.declared.refusal.Refusal.{Refusal}
@@ -68,10 +68,10 @@ reads (checked.Refused r) = refused r
 unfoldable pub answerOf : Call → Answer
 answerOf (Decompose n tolerance budget m) =
     let asked = setting n true (ofBits binary64 tolerance) in
-    let square = read (lent (n * n)) in
-    let o = decompositionOf asked budget (read m) (pair square square) (read (lent (2 * n))) in
+    let square = ofPatterns (lent (n * n)) in
+    let o = decompositionOf asked budget (ofPatterns m) (pair square square) (ofPatterns (lent (2 * n))) in
     answer (decomposes (o .answer)) (shown (o .pair .t) ∷ shown (o .pair .q) ∷ shown (o .work) ∷ [])
-answerOf (Real n t) = let r = realRead n (read t) (read (lent n)) in answer (reads (r .answer)) (shown (r .values) ∷ [])
+answerOf (Real n t) = let r = realRead n (ofPatterns t) (ofPatterns (lent n)) in answer (reads (r .answer)) (shown (r .values) ∷ [])
 answerOf (Complex n t) =
-    let r = complexRead n (read t) (read (lent n)) (read (lent n)) in
+    let r = complexRead n (ofPatterns t) (ofPatterns (lent n)) (ofPatterns (lent n)) in
     answer (reads (r .answer)) (shown (r .re) ∷ shown (r .im) ∷ [])

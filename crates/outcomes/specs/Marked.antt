@@ -20,17 +20,17 @@ line call says memory = record { call = call; answer = answer says memory }
 
 -- ---- numbers, by their patterns
 
-one : ℕ
-one = 0x3ff0_0000_0000_0000
+oneBits : ℕ
+oneBits = 0x3ff0_0000_0000_0000
 
-minusOne : ℕ
-minusOne = 0xbff0_0000_0000_0000
+minusOneBits : ℕ
+minusOneBits = 0xbff0_0000_0000_0000
 
-two : ℕ
-two = 0x4000_0000_0000_0000
+twoBits : ℕ
+twoBits = 0x4000_0000_0000_0000
 
-four : ℕ
-four = 0x4010_0000_0000_0000
+fourBits : ℕ
+fourBits = 0x4010_0000_0000_0000
 
 five : ℕ
 five = 0x4014_0000_0000_0000
@@ -64,27 +64,27 @@ diagonal : List ℕ → List ℕ
 diagonal l = spaced (length l) l
 
 identity : ℕ → List ℕ
-identity n = diagonal (copies one n)
+identity n = diagonal (copies oneBits n)
 
 -- rows (0 -1), (1 0)
 J : List ℕ
-J = 0 ∷ one ∷ minusOne ∷ 0 ∷ []
+J = 0 ∷ oneBits ∷ minusOneBits ∷ 0 ∷ []
 
 -- J twice on the diagonal, with this number in row 0 of column 2
 twice : ℕ → List ℕ
-twice x = 0 ∷ one ∷ 0 ∷ 0 ∷ minusOne ∷ 0 ∷ 0 ∷ 0 ∷ x ∷ 0 ∷ 0 ∷ one ∷ 0 ∷ 0 ∷ minusOne ∷ 0 ∷ []
+twice x = 0 ∷ oneBits ∷ 0 ∷ 0 ∷ minusOneBits ∷ 0 ∷ 0 ∷ 0 ∷ x ∷ 0 ∷ 0 ∷ oneBits ∷ 0 ∷ 0 ∷ minusOneBits ∷ 0 ∷ []
 
 -- J then 2 on the diagonal, with this number in row 0 of column 2
 thenTwo : ℕ → List ℕ
-thenTwo x = 0 ∷ one ∷ 0 ∷ minusOne ∷ 0 ∷ 0 ∷ x ∷ 0 ∷ two ∷ []
+thenTwo x = 0 ∷ oneBits ∷ 0 ∷ minusOneBits ∷ 0 ∷ 0 ∷ x ∷ 0 ∷ twoBits ∷ []
 
 -- 1, 2, then J
 thenJ : List ℕ
-thenJ = one ∷ 0 ∷ 0 ∷ 0 ∷ 0 ∷ two ∷ 0 ∷ 0 ∷ 0 ∷ 0 ∷ 0 ∷ one ∷ 0 ∷ 0 ∷ minusOne ∷ 0 ∷ []
+thenJ = oneBits ∷ 0 ∷ 0 ∷ 0 ∷ 0 ∷ twoBits ∷ 0 ∷ 0 ∷ 0 ∷ 0 ∷ 0 ∷ oneBits ∷ 0 ∷ 0 ∷ minusOneBits ∷ 0 ∷ []
 
 -- both entries just below the diagonal 1, rest 0
 below : List ℕ
-below = 0 ∷ one ∷ 0 ∷ 0 ∷ 0 ∷ one ∷ 0 ∷ 0 ∷ 0 ∷ []
+below = 0 ∷ oneBits ∷ 0 ∷ 0 ∷ 0 ∷ oneBits ∷ 0 ∷ 0 ∷ 0 ∷ []
 
 -- ---- what the decomposition leaves behind it: T, Q and the workspace
 
@@ -97,8 +97,8 @@ untouched : ℕ → List (List ℕ)
 untouched n = lent (n * n) ∷ lent (n * n) ∷ lent (2 * n) ∷ []
 
 -- refused after it: 7, 8 and 9
-spoiled : ℕ → List (List ℕ)
-spoiled n = left n (copies nan (n * n)) (copies nan (n * n))
+nans : ℕ → List (List ℕ)
+nans n = left n (copies nan (n * n)) (copies nan (n * n))
 
 -- ---- what is to be shown of lines, and every definition that is computed with
 
@@ -111,15 +111,15 @@ _then_ {x} {y} h k = record { all = map-append _ x y ∙ ap (λ l. l ++ map (λ 
 
 unfoldable openedMarked : Unit {0}
 unfolding openedDecomposition openedReaders copies lent refused decomposes reads answerOf
-    line one minusOne two four five minusZero nan huge usual zeros spaced diagonal identity
-    J twice thenTwo thenJ below left untouched spoiled
+    line oneBits minusOneBits twoBits fourBits five minusZero nan huge usual zeros spaced diagonal identity
+    J twice thenTwo thenJ below left untouched nans
 openedMarked = tt
 
 -- ---- the items
 
 -- order 1, entry 5: T 5, Q 1, passes 0
 a : List Line
-a = line (Decompose 1 usual 1 (five ∷ [])) (Passes 0) (left 1 (five ∷ []) (one ∷ [])) ∷ []
+a = line (Decompose 1 usual 1 (five ∷ [])) (Passes 0) (left 1 (five ∷ []) (oneBits ∷ [])) ∷ []
 
 a-holds : Holds a
 unfolding openedMarked a
@@ -129,7 +129,7 @@ a-holds = record { all = refl }
 b : List Line
 b = line (Decompose 2 usual 1 J) (Passes 0) (left 2 J (identity 2))
     ∷ line (Real 2 J) (Refused 10 0 0) (lent 2 ∷ [])
-    ∷ line (Complex 2 J) Read ((0 ∷ 0 ∷ []) ∷ (one ∷ minusOne ∷ []) ∷ []) ∷ []
+    ∷ line (Complex 2 J) Read ((0 ∷ 0 ∷ []) ∷ (oneBits ∷ minusOneBits ∷ []) ∷ []) ∷ []
 
 b-holds : Holds b
 unfolding openedMarked b
@@ -145,7 +145,7 @@ c-holds = record { all = refl }
 
 -- diagonal 1, 2, 4: eigenvalues 1, 2, 4, passes 0
 d : List Line
-d = let values = one ∷ two ∷ four ∷ [] in
+d = let values = oneBits ∷ twoBits ∷ fourBits ∷ [] in
     let t = diagonal values in
     line (Decompose 3 usual 1 t) (Passes 0) (left 3 t (identity 3)) ∷ line (Real 3 t) Read (values ∷ []) ∷ line (Complex 3 t) Read (values ∷ zeros 3 ∷ []) ∷ []
 
@@ -155,7 +155,7 @@ d-holds = record { all = refl }
 
 -- J then 2 on the diagonal: passes 0, accepted at budget 1
 e : List Line
-e = line (Decompose 3 usual 1 (thenTwo 0)) (Passes 0) (left 3 (thenTwo minusZero) (diagonal (one ∷ one ∷ minusOne ∷ []))) ∷ []
+e = line (Decompose 3 usual 1 (thenTwo 0)) (Passes 0) (left 3 (thenTwo minusZero) (diagonal (oneBits ∷ oneBits ∷ minusOneBits ∷ []))) ∷ []
 
 e-holds : Holds e
 unfolding openedMarked e
@@ -163,8 +163,8 @@ e-holds = record { all = refl }
 
 -- J twice, order 4: budget 1 gives 7; budget 2 accepts, passes 1
 f : List Line
-f = line (Decompose 4 usual 1 (twice 0)) (Refused 7 0 0) (spoiled 4)
-    ∷ line (Decompose 4 usual 2 (twice 0)) (Passes 1) (left 4 (twice minusZero) (diagonal (one ∷ one ∷ minusOne ∷ minusOne ∷ []))) ∷ []
+f = line (Decompose 4 usual 1 (twice 0)) (Refused 7 0 0) (nans 4)
+    ∷ line (Decompose 4 usual 2 (twice 0)) (Passes 1) (left 4 (twice minusZero) (diagonal (oneBits ∷ oneBits ∷ minusOneBits ∷ minusOneBits ∷ []))) ∷ []
 
 f-holds : Holds f
 unfolding openedMarked f
@@ -172,7 +172,7 @@ f-holds = record { all = refl }
 
 -- diagonal 1, 2, then J: budget 1 gives 7 though the window has closed; budget 2 accepts, passes 1
 g : List Line
-g = line (Decompose 4 usual 1 thenJ) (Refused 7 0 0) (spoiled 4)
+g = line (Decompose 4 usual 1 thenJ) (Refused 7 0 0) (nans 4)
     ∷ line (Decompose 4 usual 2 thenJ) (Passes 1) (left 4 thenJ (identity 4)) ∷ []
 
 g-holds : Holds g
@@ -197,7 +197,7 @@ i-holds = record { all = refl }
 
 -- tolerance 1 gives 4
 j : List Line
-j = line (Decompose 2 one 1 J) (Refused 4 0 0) (untouched 2) ∷ []
+j = line (Decompose 2 oneBits 1 J) (Refused 4 0 0) (untouched 2) ∷ []
 
 j-holds : Holds j
 unfolding openedMarked j
@@ -213,7 +213,7 @@ k-holds = record { all = refl }
 
 -- rows (0 2^700), (2^700 0): 8 at 0 0
 l : List Line
-l = line (Decompose 2 usual 1 (0 ∷ huge ∷ huge ∷ 0 ∷ [])) (Refused 8 0 0) (spoiled 2) ∷ []
+l = line (Decompose 2 usual 1 (0 ∷ huge ∷ huge ∷ 0 ∷ [])) (Refused 8 0 0) (nans 2) ∷ []
 
 l-holds : Holds l
 unfolding openedMarked l
@@ -221,7 +221,7 @@ l-holds = record { all = refl }
 
 -- rows (1 0), (2^700 1): T all zeros, accepted
 m : List Line
-m = line (Decompose 2 usual 1 (one ∷ huge ∷ 0 ∷ one ∷ [])) (Passes 0) (left 2 (zeros 4) (0 ∷ 0 ∷ minusZero ∷ 0 ∷ [])) ∷ []
+m = line (Decompose 2 usual 1 (oneBits ∷ huge ∷ 0 ∷ oneBits ∷ [])) (Passes 0) (left 2 (zeros 4) (0 ∷ 0 ∷ minusZero ∷ 0 ∷ [])) ∷ []
 
 m-holds : Holds m
 unfolding openedMarked m
@@ -237,11 +237,11 @@ n-holds = record { all = refl }
 
 -- ---- all of them
 
-pub table : List Line
-table = a ++ b ++ c ++ d ++ e ++ f ++ g ++ h ++ i ++ j ++ k ++ l ++ m ++ n
+pub markedCalls : List Line
+markedCalls = a ++ b ++ c ++ d ++ e ++ f ++ g ++ h ++ i ++ j ++ k ++ l ++ m ++ n
 
-pub marked : map (λ x. answerOf (x .call)) table ≡ map (λ x. x .answer) table
-unfolding table
+pub marked : map (λ x. answerOf (x .call)) markedCalls ≡ map (λ x. x .answer) markedCalls
+unfolding markedCalls
 marked =
     (a-holds then b-holds then c-holds then d-holds then e-holds then f-holds then g-holds then h-holds then i-holds then j-holds then k-holds then l-holds then m-holds
     then n-holds) .all

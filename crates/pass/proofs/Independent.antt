@@ -9,7 +9,7 @@ use lib.Ieee.{Float}
 use Rattle.loops.specs.Times.{range, range-both}
 use Rattle.matrix.specs.Fits.{blockFits}
 use Rattle.matrix.specs.Sum.{bare}
-use Rattle.matrix.specs.Vectors.{two, three}
+use Rattle.matrix.specs.Vectors.{list2, list3}
 use Rattle.matrix.specs.declared.vector.Vector3.{Vector3}
 use Rattle.householder.specs.Axis.{axisOf}
 use Rattle.window.specs.declared.Window.{Window}
@@ -45,14 +45,14 @@ chased-t : (b d : Bool) (asked : Setting) (w : Window) (first : Vector3) (k : �
     → chased (wanting b asked) w first k p .t ≡ chased (wanting d asked) w first k r .t
 unfolding chased
 chased-t b d asked w first k p r h =
-    let column : List Float → List Float = λ t. three (columnAt (asked .order) (w .start) k first t) in
+    let column : List Float → List Float = λ t. list3 (columnAt (asked .order) (w .start) k first t) in
     stepAt-t b d asked w k (column (p .t)) p r h ∙ ap (λ t. stepAt (wanting d asked) w k (column t) r .t) h
 
 closing-t : (b d : Bool) (asked : Setting) (w : Window) (p r : Pair) → p .t ≡ r .t → closing (wanting b asked) w p .t ≡ closing (wanting d asked) w r .t
 unfolding closing
 closing-t b d asked w p r h =
     let k = w .end - 1 in
-    stepAt-t b d asked w k (two (bulgeEnd (asked .order) k (p .t))) p r h ∙ ap (λ t. stepAt (wanting d asked) w k (two (bulgeEnd (asked .order) k t)) r .t) h
+    stepAt-t b d asked w k (list2 (bulgeEnd (asked .order) k (p .t))) p r h ∙ ap (λ t. stepAt (wanting d asked) w k (list2 (bulgeEnd (asked .order) k t)) r .t) h
 
 passHere-t : (b d : Bool) (asked : Setting) (w : Window) (p r : Pair) → p .t ≡ r .t → passHere (wanting b asked) w p .t ≡ passHere (wanting d asked) w r .t
 unfolding passHere

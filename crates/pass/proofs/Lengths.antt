@@ -12,7 +12,7 @@ use Rattle.loops.specs.Tests.{cond-hold}
 use Rattle.loops.specs.Times.{range, range-hold}
 use Rattle.matrix.specs.Fits.{blockFits}
 use Rattle.matrix.specs.Sum.{bare}
-use Rattle.matrix.specs.Vectors.{two, three}
+use Rattle.matrix.specs.Vectors.{list2, list3}
 use Rattle.matrix.specs.declared.vector.Vector3.{Vector3}
 use Rattle.reflection.specs.Reflected.{reflectedRows}
 use Rattle.reflection.proofs.Frames.{reflected-length, reflectedRows-length}
@@ -67,11 +67,11 @@ stepAt-length asked w k c p =
 
 chased-length : (asked : Setting) (w : Window) (first : Vector3) (k : ℕ) (p : Pair) → AsLong p (chased asked w first k p)
 unfolding chased
-chased-length asked w first k p = stepAt-length asked w k (three (columnAt (asked .order) (w .start) k first (p .t))) p
+chased-length asked w first k p = stepAt-length asked w k (list3 (columnAt (asked .order) (w .start) k first (p .t))) p
 
 closing-length : (asked : Setting) (w : Window) (p : Pair) → AsLong p (closing asked w p)
 unfolding closing
-closing-length asked w p = stepAt-length asked w (w .end - 1) (two (bulgeEnd (asked .order) (w .end - 1) (p .t))) p
+closing-length asked w p = stepAt-length asked w (w .end - 1) (list2 (bulgeEnd (asked .order) (w .end - 1) (p .t))) p
 
 passHere-length : (asked : Setting) (w : Window) (p : Pair) → AsLong p (passHere asked w p)
 unfolding passHere

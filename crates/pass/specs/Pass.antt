@@ -11,7 +11,7 @@ use Rattle.loops.specs.Rounded.{_⊕_, _⊖_, _⊗_, _!_}
 use Rattle.loops.specs.Times.{range}
 use Rattle.matrix.specs.Fits.{blockFits}
 use Rattle.matrix.specs.Sum.{bare}
-use Rattle.matrix.specs.Vectors.{two, three}
+use Rattle.matrix.specs.Vectors.{list2, list3}
 use Rattle.matrix.specs.declared.vector.Vector2.{Vector2}
 use Rattle.matrix.specs.declared.vector.Vector3.{Vector3}
 use Rattle.reflection.specs.Reflected.{reflected, reflectedRows}
@@ -83,11 +83,11 @@ stepAt asked w k c p =
 
 -- the step at k by three numbers
 unfoldable pub chased : Setting → Window → (first : Vector3) → (k : ℕ) → Pair → Pair
-chased asked w first k p = stepAt asked w k (three (columnAt (asked .order) (w .start) k first (p .t))) p
+chased asked w first k p = stepAt asked w k (list3 (columnAt (asked .order) (w .start) k first (p .t))) p
 
 -- the last step, by two
 unfoldable pub closing : Setting → Window → Pair → Pair
-closing asked w p = let k = w .end - 1 in stepAt asked w k (two (bulgeEnd (asked .order) k (p .t))) p
+closing asked w p = let k = w .end - 1 in stepAt asked w k (list2 (bulgeEnd (asked .order) k (p .t))) p
 
 unfoldable pub passHere : Setting → Window → Pair → Pair
 passHere asked w p =

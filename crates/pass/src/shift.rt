@@ -5,7 +5,7 @@ ghost use lib.ListN.{length};
 ghost use Prim.Native.Nat.{_+_, _*_, _<_, _≤_};
 ghost use Rattle.loops.specs.Constants.{one};
 ghost use Rattle.matrix.specs.Sum.{bare};
-ghost use Rattle.matrix.specs.Vectors.{two, three};
+ghost use Rattle.matrix.specs.Vectors.{list2, list3};
 ghost use Rattle.reflection.specs.Reflected.{reflected, reflectedRows};
 ghost use Rattle.pass.specs.Pair.{pair};
 ghost use Rattle.pass.specs.Pass.{firstColumn, bulge, bulgeEnd, columnAt, sweptPast, reflectedAt, rowsAt, stepAt, chased, closing, passHere, passOf};
@@ -95,7 +95,7 @@ fn sweep2(t: &mut [f64], n: usize, start: usize, k: usize, norm: f64)
 fn both_sides3(a: Vector3, t: &mut [f64], n: usize, k: usize, rows: usize)
     requires { ⌜ (n ≤ 64) × (length (now t) ≡ n * n) × (k + 2 < n) × (rows ≤ n) ⌝ }
     ensures { λ _. ⌜ now (t .exit)
-        ≡ reflectedRows (three a) one n rows k (reflected bare (three a) one n k k n (now (t .entry))) ⌝ }
+        ≡ reflectedRows (list3 a) one n rows k (reflected bare (list3 a) one n k k n (now (t .entry))) ⌝ }
 {
     let right = k + 3;
     reflection::reflect3(a, t, n, k, k, right);
@@ -108,7 +108,7 @@ fn reflect_at3(a: Vector3, t: &mut [f64], q: &mut [f64], asked: Setting, k: usiz
     requires { ⌜ (asked .order ≤ 64) × (length (now t) ≡ asked .order * asked .order) × (k + 2 < asked .order)
         × (rows ≤ asked .order) ⌝ }
     ensures { λ _. ⌜ pair (now (t .exit)) (now (q .exit))
-        ≡ reflectedAt asked k rows (three a) (pair (now (t .entry)) (now (q .entry))) ⌝ }
+        ≡ reflectedAt asked k rows (list3 a) (pair (now (t .entry)) (now (q .entry))) ⌝ }
 {
     both_sides3(a, t, asked.order, k, rows);
     if asked.wanted {
@@ -119,7 +119,7 @@ fn reflect_at3(a: Vector3, t: &mut [f64], q: &mut [f64], asked: Setting, k: usiz
 // Both sides and Q by an axis of two.
 fn reflect_at2(a: Vector2, t: &mut [f64], q: &mut [f64], asked: Setting, k: usize, rows: usize)
     ensures { λ _. ⌜ pair (now (t .exit)) (now (q .exit))
-        ≡ reflectedAt asked k rows (two a) (pair (now (t .entry)) (now (q .entry))) ⌝ }
+        ≡ reflectedAt asked k rows (list2 a) (pair (now (t .entry)) (now (q .entry))) ⌝ }
 {
     reflection::reflect2(a, t, asked.order, k, k, asked.order);
     reflection::reflect_rows2(a, t, asked.order, rows, k);
@@ -144,7 +144,7 @@ fn step3(column: Vector3, t: &mut [f64], q: &mut [f64], asked: Setting, w: Windo
     requires { ⌜ (asked .order ≤ 64) × (length (now t) ≡ asked .order * asked .order) × (k + 2 < asked .order)
         × (w .end < asked .order) ⌝ }
     ensures { λ _. ⌜ pair (now (t .exit)) (now (q .exit))
-        ≡ stepAt asked w k (three column) (pair (now (t .entry)) (now (q .entry))) ⌝ }
+        ≡ stepAt asked w k (list3 column) (pair (now (t .entry)) (now (q .entry))) ⌝ }
 {
     let r = householder::reflection_axis3(column);
     if !r.reflected {
@@ -158,7 +158,7 @@ fn step2(column: Vector2, t: &mut [f64], q: &mut [f64], asked: Setting, w: Windo
     requires { ⌜ (asked .order ≤ 64) × (length (now t) ≡ asked .order * asked .order) × (k + 1 < asked .order)
         × (w .end < asked .order) ⌝ }
     ensures { λ _. ⌜ pair (now (t .exit)) (now (q .exit))
-        ≡ stepAt asked w k (two column) (pair (now (t .entry)) (now (q .entry))) ⌝ }
+        ≡ stepAt asked w k (list2 column) (pair (now (t .entry)) (now (q .entry))) ⌝ }
 {
     let r = householder::reflection_axis2(column);
     if !r.reflected {

@@ -8,7 +8,7 @@ use Rattle.pass.specs.declared.setting.Setting.{Setting}
 use Rattle.pass.specs.Pair.{Pair}
 use Rattle.decomposition.specs.declared.Decomposed.the-variants.{Accepted}
 use Rattle.decomposition.specs.Decomposition.{Outcome, decompositionOf}
-use Rattle.decomposition.proofs.Passing.{all-right, all-lent}
+use Rattle.decomposition.proofs.CheckedArguments.{all-right, all-lent}
 use Rattle.decomposition.proofs.Touched.{accepted-passed, t-square}
 use Rattle.decomposition.proofs.Shape.{accepted-finite, accepted-shape}
 use Rattle.eigenvalues.specs.Readers.{pairCheck, realRead}

@@ -10,7 +10,7 @@ use Rattle.refusal.specs.declared.refusal.Checked.{Checked}
 use Rattle.refusal.specs.declared.refusal.Checked.the-variants.{Passed, Refused}
 use Rattle.refusal.specs.Refusal.{_next_}
 use Rattle.refusal.specs.Checks.{orderChecks, entryChecks, givenChecks}
-use Rattle.refusal.proofs.Checking.{next-assoc}
+use Rattle.refusal.proofs.ChecksInTurn.{next-assoc}
 use Rattle.plain.specs.Plain.{plainLengths, inPlace, plainBegun, plainPlacedOf, plainFiniteOf, kept, plainOf}
 
 -- a check that passes adds nothing behind others

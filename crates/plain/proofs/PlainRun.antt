@@ -19,17 +19,17 @@ use Rattle.refusal.specs.declared.refusal.Checked.{Checked}
 use Rattle.refusal.specs.declared.refusal.Checked.the-variants.{Passed, Refused}
 use Rattle.refusal.specs.Refusal.{toldOf}
 use Rattle.refusal.specs.Checks.{lengthCheck, givenChecks}
-use Rattle.refusal.proofs.Checking.{next-passes, Only, only-next, only-refuse, only-at}
-use Rattle.refusal.proofs.Passing.{length-passes, matrices-passes, given-passed, only-length, only-given}
+use Rattle.refusal.proofs.ChecksInTurn.{next-passes, Only, only-next, only-refuse, only-at}
+use Rattle.refusal.proofs.PassedChecks.{length-passes, matrices-passes, given-passed, only-length, only-given}
 use Rattle.schur.specs.Run.{countOf}
 use Rattle.decomposition.specs.declared.Decomposed.{Decomposed}
 use Rattle.decomposition.specs.declared.Decomposed.the-variants.{Accepted, Declined}
 use Rattle.decomposition.specs.Checks.{toleranceFits, budgetFits, allLengths}
 use Rattle.decomposition.specs.Decomposition.{Outcome, decompositionOf}
-use Rattle.decomposition.proofs.Passing.{right-passed}
+use Rattle.decomposition.proofs.CheckedArguments.{right-passed}
 use Rattle.decomposition.proofs.Touched.{checksOf, run-judged}
 use Rattle.decomposition.proofs.Count.{refused-reached, reached-refused}
-use Rattle.eigenvalues.specs.Readers.{pairCheck, listed}
+use Rattle.eigenvalues.specs.Readers.{pairCheck, leftBy}
 use Rattle.plain.specs.Plain.{plainLengths, Sized, plainTwo, plainBudget, plainAsked, plainRan, complexChecked, plainRun, plainRead, plainLeft, plainBegun, plainPlacedOf, plainOf}
 use Rattle.plain.proofs.InPlace.{checks}
 use Rattle.plain.proofs.Plainly.{given-sized}
@@ -107,7 +107,7 @@ module _ (n : ℕ) (m values w : List Float) where
   plain-kept h = ap (λ p. p .answer) (by-checks h)
 
   by-order : {b : Bool} → checks n m values w ≡ Passed → eqb n 2 ≡ b → answer ≡ cond b (plainTwo (eigvalsOf (blockAt 2 0 m))) (plainRun n (plainRan n m w)) .answer
-  unfolding plainOf plainBegun listed plainRead
+  unfolding plainOf plainBegun leftBy plainRead
   by-order h k = ap (λ p. p .answer) (by-checks h) ∙ ap (λ b. cond b (plainTwo (eigvalsOf (blockAt 2 0 m))) (plainRun n (plainRan n m w)) .answer) k
 
   -- every order but 2

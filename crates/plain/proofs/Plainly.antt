@@ -23,13 +23,13 @@ use Rattle.refusal.specs.declared.refusal.Checked.{Checked}
 use Rattle.refusal.specs.declared.refusal.Checked.the-variants.{Passed, Refused}
 use Rattle.refusal.specs.Refusal.{at, refuseAt, _next_, ifPassed}
 use Rattle.refusal.specs.Checks.{orderChecks, givenChecks}
-use Rattle.refusal.proofs.Checking.{next-passed, next-passes}
-use Rattle.refusal.proofs.Passing.{order-passed, length-passed}
+use Rattle.refusal.proofs.ChecksInTurn.{next-passed, next-passes}
+use Rattle.refusal.proofs.PassedChecks.{order-passed, length-passed}
 use Rattle.decomposition.specs.declared.Decomposed.the-variants.{Accepted, Declined}
 use Rattle.decomposition.specs.Decomposition.{Outcome, outcome, Settlement, decided, judged}
-use Rattle.decomposition.proofs.Passing.{sizes-fit}
-use Rattle.eigenvalues.specs.Readers.{pairCheck, diagonal, Read, read, listed}
-use Rattle.eigenvalues.proofs.Diagonal.{Sought, sought-none, sought-more, place-here, place-none}
+use Rattle.decomposition.proofs.CheckedArguments.{sizes-fit}
+use Rattle.eigenvalues.specs.Readers.{pairCheck, diagonal, Read, read, leftBy}
+use Rattle.eigenvalues.proofs.DiagonalSearch.{Sought, sought-none, sought-more, place-here, place-none}
 use Rattle.plain.specs.Plain.{plainLengths, Sized, bothOf, plainTwo, plainBudget, plainAsked, plainRan, complexChecked, plainRun, plainRead, plainLeft, InPlace, inPlace, plainBegun}
 
 -- ---- what the checks of the order and the lengths tell
@@ -65,20 +65,20 @@ run-fits z = sizes-fit (z .some) (z .order) (record { alike = refl; square = z .
 abbrev unfit : Values → ℕ → Bool
 unfit v k = not (isFinite (bothOf v ! k))
 
-pub two-first : (v : Values) (values : List Float) → isFinite (v .first) ≡ false → read (Refused (ResultNotFinite (at 0 0))) values ≡ listed (plainTwo (Real v)) values
-unfolding plainTwo listed refuseAt ifPassed
+pub two-first : (v : Values) (values : List Float) → isFinite (v .first) ≡ false → read (Refused (ResultNotFinite (at 0 0))) values ≡ leftBy (plainTwo (Real v)) values
+unfolding plainTwo leftBy refuseAt ifPassed
 two-first v values h = rw (← place-here (sought-none (unfit v) 2) (omega arith) (ap not h))
 
 -- the first is passed over
 past-first : (v : Values) → isFinite (v .first) ≡ true → Sought (unfit v) 2 1
 past-first v h = sought-more (sought-none (unfit v) 2) (omega arith) (ap not h)
 
-pub two-second : (v : Values) (values : List Float) → isFinite (v .first) ≡ true → isFinite (v .second) ≡ false → read (Refused (ResultNotFinite (at 1 1))) values ≡ listed (plainTwo (Real v)) values
-unfolding plainTwo listed refuseAt ifPassed
+pub two-second : (v : Values) (values : List Float) → isFinite (v .first) ≡ true → isFinite (v .second) ≡ false → read (Refused (ResultNotFinite (at 1 1))) values ≡ leftBy (plainTwo (Real v)) values
+unfolding plainTwo leftBy refuseAt ifPassed
 two-second v values h k = rw (← place-here (past-first v h) (omega arith) (ap not k))
 
-pub two-both : (v : Values) (values out : List Float) → isFinite (v .first) ≡ true → isFinite (v .second) ≡ true → out ≡ bothOf v → read Passed out ≡ listed (plainTwo (Real v)) values
-unfolding plainTwo listed refuseAt ifPassed
+pub two-both : (v : Values) (values out : List Float) → isFinite (v .first) ≡ true → isFinite (v .second) ≡ true → out ≡ bothOf v → read Passed out ≡ leftBy (plainTwo (Real v)) values
+unfolding plainTwo leftBy refuseAt ifPassed
 two-both v values out h k e = rw (← place-none (sought-more (past-first v h) (omega arith) (ap not k)) (omega arith), e)
 
 pub two-put : (t : List Float) (x y : Float) → length t ≡ 2 → set (set t 0 x) 1 y ≡ x ∷ y ∷ []
@@ -106,13 +106,13 @@ ran-by {l} {s} {w'} n m w fits run end work none =
     let whole : outcome (s .answer) (s .pair) w' ≡ plainRan n m w = rw cleared (ap (λ s. outcome (s .answer) (s .pair) (filled zero w)) said) in
     ap (λ q. outcome (s .answer) (pair (s .pair .t) q) w') (sym (none-left (s .pair .q) none)) ∙ whole
 
-pub run-refused : (n : ℕ) (o : Outcome) (r : Refusal) (values : List Float) → o .answer ≡ Declined r → read (Refused r) values ≡ listed (plainRun n o) values
-unfolding listed plainRun complexChecked ifPassed
+pub run-refused : (n : ℕ) (o : Outcome) (r : Refusal) (values : List Float) → o .answer ≡ Declined r → read (Refused r) values ≡ leftBy (plainRun n o) values
+unfolding leftBy plainRun complexChecked ifPassed
 run-refused n o r values h = rw h
 
 pub run-read : {passes : ℕ} {x : Read} (n : ℕ) (o : Outcome) (t values : List Float) → o .answer ≡ Accepted passes → t ≡ o .pair .t
-    → x ≡ listed (read (pairCheck n t) (diagonal n t)) values → x ≡ listed (plainRun n o) values
-unfolding listed plainRun complexChecked
+    → x ≡ leftBy (read (pairCheck n t) (diagonal n t)) values → x ≡ leftBy (plainRun n o) values
+unfolding leftBy plainRun complexChecked
 run-read n o t values h e k = rw (h, ← e) k
 
 -- ---- both, once the arguments have passed: x is what was answered, and what is left
@@ -120,12 +120,12 @@ run-read n o t values h e k = rw (h, ← e) k
 told-by : (x : InPlace) (r : Read) (t w : List Float) → read (x .answer) (x .values) ≡ r → x .t ≡ t → x .work ≡ w → x ≡ inPlace (r .answer) t (r .values) w
 told-by x r t w e l k = ap (λ (r : Read). inPlace (r .answer) (x .t) (r .values) (x .work)) e ∙ ap (λ t. inPlace (r .answer) t (r .values) (x .work)) l ∙ ap (λ w. inPlace (r .answer) t (r .values) w) k
 
-pub begun-two : (x : InPlace) (n : ℕ) (t values w : List Float) → n ≡ 2 → read (x .answer) (x .values) ≡ listed (plainTwo (eigvalsOf (blockAt 2 0 t))) values
+pub begun-two : (x : InPlace) (n : ℕ) (t values w : List Float) → n ≡ 2 → read (x .answer) (x .values) ≡ leftBy (plainTwo (eigvalsOf (blockAt 2 0 t))) values
     → x .t ≡ t → x .work ≡ filled zero w → x ≡ plainBegun Passed n t values w
 unfolding plainBegun plainRead plainLeft
 begun-two x n t values w h e l k = rw (eq-eqb n 2 h) (told-by x _ _ _ e l k)
 
-pub begun-run : (x : InPlace) (n : ℕ) (t values w : List Float) → n ≢ 2 → read (x .answer) (x .values) ≡ listed (plainRun n (plainRan n t w)) values
+pub begun-run : (x : InPlace) (n : ℕ) (t values w : List Float) → n ≢ 2 → read (x .answer) (x .values) ≡ leftBy (plainRun n (plainRan n t w)) values
     → x .t ≡ plainRan n t w .pair .t → x .work ≡ filled zero w → x ≡ plainBegun Passed n t values w
 unfolding plainBegun plainRead plainLeft
 begun-run x n t values w h e l k = rw (ne-eqb n 2 h) (told-by x _ _ _ e l k)

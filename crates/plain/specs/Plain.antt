@@ -28,7 +28,7 @@ use Rattle.refusal.specs.Checks.{orderChecks, lengthCheck, givenChecks}
 use Rattle.decomposition.specs.declared.Decomposed.{Decomposed}
 use Rattle.decomposition.specs.declared.Decomposed.the-variants.{Accepted, Declined}
 use Rattle.decomposition.specs.Decomposition.{Outcome, judged}
-use Rattle.eigenvalues.specs.Readers.{pairCheck, diagonal, Read, read, listed}
+use Rattle.eigenvalues.specs.Readers.{pairCheck, diagonal, Read, read, leftBy}
 
 -- ---- before the run: the matrix, one number for each row, the workspace
 
@@ -96,7 +96,7 @@ inPlace answer t values w = record { answer = answer; t = t; values = values; wo
 
 -- refused before the run: nothing is touched; after it, the workspace is +0 throughout
 unfoldable pub plainBegun : Checked → ℕ → (t values w : List Float) → InPlace
-plainBegun Passed n t values w = let r = listed (plainRead n t w) values in inPlace (r .answer) (plainLeft n t w) (r .values) (filled zero w)
+plainBegun Passed n t values w = let r = leftBy (plainRead n t w) values in inPlace (r .answer) (plainLeft n t w) (r .values) (filled zero w)
 plainBegun (Refused r) n t values w = inPlace (Refused r) t values w
 
 unfoldable pub plainPlacedOf : ℕ → (t values w : List Float) → InPlace

@@ -15,7 +15,7 @@ ghost use Rattle.refusal.specs.declared.refusal.Checked.the-variants.{Passed};
 ghost use Rattle.refusal.specs.Refusal.{_next_};
 ghost use Rattle.refusal.specs.Checks.{orderChecks, givenChecks};
 ghost use Rattle.decomposition.specs.Decomposition.{outcome};
-ghost use Rattle.eigenvalues.specs.Readers.{read, listed};
+ghost use Rattle.eigenvalues.specs.Readers.{read, leftBy};
 ghost use Rattle.plain.specs.Plain.{plainLengths, Sized, plainTwo, plainRan, plainRun, inPlace, plainBegun, plainPlacedOf, plainFiniteOf, plain, kept, plainOf};
 use decomposition::Decomposed;
 use pass::Block;
@@ -67,7 +67,7 @@ fn check_arguments(m: &[f64], n: usize, vn: usize, wn: usize) -> Checked
 // Two eigenvalues, if both are finite.
 fn two_values(v: Values, values: &mut [f64]) -> Checked
     requires { ⌜ length (now values) ≡ 2 ⌝ }
-    ensures { λ r. ⌜ read r (now (values .exit)) ≡ listed (plainTwo (Real v)) (now (values .entry)) ⌝ }
+    ensures { λ r. ⌜ read r (now (values .exit)) ≡ leftBy (plainTwo (Real v)) (now (values .entry)) ⌝ }
 {
     if !scalar::is_finite(v.first) {
         return Checked::Refused(Refusal::ResultNotFinite(Place { row: 0, col: 0 }));
@@ -97,7 +97,7 @@ fn block_of(m: &[f64]) -> Block
 fn two_of(m: &[f64], values: &mut [f64]) -> Checked
     requires { ⌜ (length (now m) ≡ 4) × (length (now values) ≡ 2) ⌝ }
     ensures { λ r. ⌜ read r (now (values .exit))
-        ≡ listed (plainTwo (eigvalsOf (blockAt 2 0 (now (m .entry))))) (now (values .entry)) ⌝ }
+        ≡ leftBy (plainTwo (eigvalsOf (blockAt 2 0 (now (m .entry))))) (now (values .entry)) ⌝ }
 {
     let Eigvals::Real(v) = pass::compute_2x2_eigvals(block_of(m)) else {
         return Checked::Refused(Refusal::ComplexEigenvalues);
@@ -108,7 +108,7 @@ fn two_of(m: &[f64], values: &mut [f64]) -> Checked
 // Order 2: no run, so that the matrix is only read; the workspace is cleared as a run clears it.
 fn plain_two(m: &[f64], values: &mut [f64], work: &mut [f64]) -> Checked
     requires { ⌜ (length (now m) ≡ 4) × (length (now values) ≡ 2) ⌝ }
-    ensures { λ r. ⌜ (read r (now (values .exit)) ≡ listed (plainTwo (eigvalsOf (blockAt 2 0 (now (m .entry))))) (now (values .entry)))
+    ensures { λ r. ⌜ (read r (now (values .exit)) ≡ leftBy (plainTwo (eigvalsOf (blockAt 2 0 (now (m .entry))))) (now (values .entry)))
         × (now (work .exit) ≡ filled zero (now (work .entry))) ⌝ }
 {
     matrix::fill(work, 0.0);
@@ -134,7 +134,7 @@ fn decompose(t: &mut [f64], n: usize, work: &mut [f64]) -> Decomposed
 // Every other order: the diagonal of T, if it is accepted and no block of two stands.
 fn plain_run(t: &mut [f64], n: usize, values: &mut [f64], work: &mut [f64]) -> Checked
     requires { ⌜ Sized n (length (now t)) (length (now values)) (length (now work)) ⌝ }
-    ensures { λ r. ⌜ (read r (now (values .exit)) ≡ listed (plainRun n (plainRan n (now (t .entry)) (now (work .entry)))) (now (values .entry)))
+    ensures { λ r. ⌜ (read r (now (values .exit)) ≡ leftBy (plainRun n (plainRan n (now (t .entry)) (now (work .entry)))) (now (values .entry)))
         × (now (t .exit) ≡ plainRan n (now (t .entry)) (now (work .entry)) .pair .t)
         × (now (work .exit) ≡ filled zero (now (work .entry))) ⌝ }
 {

@@ -13,14 +13,14 @@ use lib.Seq.{length-take-le, take-all, getD-take}
 use Rattle.refusal.specs.declared.refusal.Checked.{Checked}
 use Rattle.refusal.specs.declared.refusal.Checked.the-variants.{Passed, Refused}
 use Rattle.refusal.specs.Refusal.{refuse, _next_}
-use Rattle.refusal.proofs.Checking.{next-passed}
+use Rattle.refusal.proofs.ChecksInTurn.{next-passed}
 use Rattle.words.specs.Words.{le64}
 use Rattle.record.specs.declared.header.Header.{Header}
 use Rattle.record.specs.Record.{le16, le32, headerOf, headerChecks, recordChecks}
 use Rattle.record.specs.Answer.{checkedText, textOf}
 use Rattle.record.proofs.Fields.{le64-halves}
 use Rattle.record.proofs.Rooms.{square-32}
-use Rattle.record.proofs.Answering.{fitting}
+use Rattle.record.proofs.CheckedHeader.{fitting}
 
 -- ---- the header of the first n bytes
 

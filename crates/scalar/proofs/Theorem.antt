@@ -11,7 +11,7 @@ use lib.Ieee.{Float, nan, inf, fin, up, down, size, odd, binary64, fits}
 use lib.Ieee.Digits.{size-lt, size-le, size-reaches}
 use lib.Ieee.Fits.{and-l, and-r, down-pos, odd-fits, nan-fits, inf-fits}
 use lib.Ieee.Exact.{HasValue, odd-sign}
-use Rattle.scalar.specs.Root.{scaleOf, scaled, unitsRoot, rootOf, wholeRoot}
+use Rattle.scalar.specs.Root.{scaleOf, scaledWhole, unitsRoot, rootOf, wholeRoot}
 use Rattle.scalar.specs.Rooted.{Near, Rooted}
 use Rattle.scalar.proofs.root.Whole.{wholeRoot-near, near-low, near-high, in-words}
 use Rattle.scalar.proofs.root.Units.{odd-both}
@@ -41,12 +41,12 @@ times104 n P h = omega arith
 times106 : (n P : ℕ) → n < P * 4 → n * 2 ^ 104 < 2 ^ 106 * P
 times106 n P h = omega arith
 
-scaled-lo : (n : ℕ) → 0 < n → 2 ^ 104 ≤ scaled n
-unfolding scaled
+scaled-lo : (n : ℕ) → 0 < n → 2 ^ 104 ≤ scaledWhole n
+unfolding scaledWhole
 scaled-lo n h = le-div-iff-mul-le (pow-pos (2 * scaleOf n)) .1 (times104 n (2 ^ (2 * scaleOf n)) (scaleOf-lo n h))
 
-scaled-hi : (n : ℕ) → scaled n < 2 ^ 106
-unfolding scaled
+scaled-hi : (n : ℕ) → scaledWhole n < 2 ^ 106
+unfolding scaledWhole
 scaled-hi n = div-lt-iff-lt-mul (pow-pos (2 * scaleOf n)) .1 (times106 n (2 ^ (2 * scaleOf n)) (scaleOf-hi n))
 
 -- ---- n = m * 2 ^ j with an m of 53 digits: the scaled number is whole
@@ -65,8 +65,8 @@ zeros m j = j + 104 - 2 * scaleOf (m * 2 ^ j)
 zeros-sum : (h j : ℕ) → 2 * h ≤ 52 + j → j + 104 - 2 * h + 2 * h ≡ j + 104
 zeros-sum h j l = omega arith
 
-scaled-exact : (m j : ℕ) → 0 < m * 2 ^ j → m < 2 ^ 53 → scaled (m * 2 ^ j) ≡ m * 2 ^ zeros m j
-unfolding scaled zeros
+scaled-exact : (m j : ℕ) → 0 < m * 2 ^ j → m < 2 ^ 53 → scaledWhole (m * 2 ^ j) ≡ m * 2 ^ zeros m j
+unfolding scaledWhole zeros
 scaled-exact m j p l =
     let h = scaleOf (m * 2 ^ j) in
     let t = j + 104 - 2 * h in
@@ -74,7 +74,7 @@ scaled-exact m j p l =
     mul-assoc m (2 ^ j) (2 ^ 104) ∙ ap (λ (x : ℕ). m * x) (sym (pow-add 2 j 104) ∙ ap (λ (x : ℕ). 2 ^ x) (sym (zeros-sum h j (scaleOf-few m j p l))) ∙ pow-add 2 t (2 * h)) ∙ sym (mul-assoc m (2 ^ t) (2 ^ (2 * h))) in
     ap (λ (x : ℕ). x / 2 ^ (2 * h)) e ∙ mul-div-cancel (m * 2 ^ t) (pow-pos (2 * h))
 
-scaled-back : (m j : ℕ) → 0 < m * 2 ^ j → m < 2 ^ 53 → scaled (m * 2 ^ j) * 2 ^ (2 * scaleOf (m * 2 ^ j)) ≡ m * 2 ^ j * 2 ^ 104
+scaled-back : (m j : ℕ) → 0 < m * 2 ^ j → m < 2 ^ 53 → scaledWhole (m * 2 ^ j) * 2 ^ (2 * scaleOf (m * 2 ^ j)) ≡ m * 2 ^ j * 2 ^ 104
 unfolding zeros
 scaled-back m j p l =
     let h = scaleOf (m * 2 ^ j) in
@@ -94,11 +94,11 @@ roomy X m (suc t) l h e =
 at-52 : (h j : ℕ) → 2 * h ≤ 52 + j → 52 + (j + 52 - 2 * h) ≡ j + 104 - 2 * h
 at-52 h j l = omega arith
 
-scaled-room : (m j : ℕ) → 0 < m * 2 ^ j → m < 2 ^ 53 → scaled (m * 2 ^ j) + 2 ^ 53 ≤ 2 ^ 106
+scaled-room : (m j : ℕ) → 0 < m * 2 ^ j → m < 2 ^ 53 → scaledWhole (m * 2 ^ j) + 2 ^ 53 ≤ 2 ^ 106
 unfolding zeros
 scaled-room m j p l =
     let h = scaleOf (m * 2 ^ j) in
-    roomy (scaled (m * 2 ^ j)) m (j + 52 - 2 * h) l (scaled-hi (m * 2 ^ j)) (scaled-exact m j p l ∙ ap (λ (x : ℕ). m * 2 ^ x) (sym (at-52 h j (scaleOf-few m j p l))))
+    roomy (scaledWhole (m * 2 ^ j)) m (j + 52 - 2 * h) l (scaled-hi (m * 2 ^ j)) (scaled-exact m j p l ∙ ap (λ (x : ℕ). m * 2 ^ x) (sym (at-52 h j (scaleOf-few m j p l))))
 
 -- ---- a value that fits is m * 2 ^ j smallest values
 
@@ -142,7 +142,7 @@ rooted : (x : Float) (m j : ℕ) → 0 < m * 2 ^ j → m < 2 ^ 53 → m * 2 ^ j 
 unfolding unitsRoot
 rooted x m j p l b v =
     let n = m * 2 ^ j in
-    let X = scaled n in
+    let X = scaledWhole n in
     let R = wholeRoot X in
     let lo : 2 ^ 104 ≤ X = scaled-lo n p in
     let hi : X < 2 ^ 106 = scaled-hi n in

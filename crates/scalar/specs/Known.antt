@@ -6,7 +6,7 @@ use mathlib.Core.Bool.{true, false}
 use lib.Ieee.{Float, binary64, ofBits, toBits, neg, le, eq}
 use Rattle.scalar.specs.Sign.{modulusOf, signumOf, toExpOf}
 use Rattle.scalar.specs.Class.{isZero, isFinite}
-use Rattle.scalar.specs.Root.{floorRoot, wholeRoot, scaleOf, scaled, unitsRoot, rootOf, rootBits}
+use Rattle.scalar.specs.Root.{floorRoot, wholeRoot, scaleOf, scaledWhole, unitsRoot, rootOf, rootBits}
 
 -- 2, 2 ^ -1074, 1, 4, 1 - 2 ^ -53, the largest finite, the smallest normal, 0, -0, +infinity, -1, -infinity, NaN
 roots : map rootBits
@@ -14,7 +14,7 @@ roots : map rootBits
     ∷ 0 ∷ 0x8000_0000_0000_0000 ∷ 0x7ff0_0000_0000_0000 ∷ 0xbff0_0000_0000_0000 ∷ 0xfff0_0000_0000_0000 ∷ 0x7ff8_0000_0000_0000 ∷ [])
     ≡ 0x3ff6_a09e_667f_3bcd ∷ 0x1e60_0000_0000_0000 ∷ 0x3ff0_0000_0000_0000 ∷ 0x4000_0000_0000_0000 ∷ 0x3fef_ffff_ffff_ffff ∷ 0x5fef_ffff_ffff_ffff ∷ 0x2000_0000_0000_0000
     ∷ 0 ∷ 0x8000_0000_0000_0000 ∷ 0x7ff0_0000_0000_0000 ∷ 0x7ff8_0000_0000_0000 ∷ 0x7ff8_0000_0000_0000 ∷ 0x7ff8_0000_0000_0000 ∷ []
-unfolding rootBits floorRoot wholeRoot scaleOf scaled unitsRoot rootOf ofBits toBits
+unfolding rootBits floorRoot wholeRoot scaleOf scaledWhole unitsRoot rootOf ofBits toBits
 roots = refl
 
 -- 0, -0, 1, -1, the smallest number and its negative, +infinity, -infinity, NaN

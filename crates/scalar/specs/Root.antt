@@ -22,12 +22,12 @@ unfoldable pub scaleOf : ℕ → ℕ
 scaleOf n = (size n - 1) / 2
 
 -- X = x / 2 ^ (2 * F): the division leaves nothing over
-unfoldable pub scaled : ℕ → ℕ
-scaled n = n * 2 ^ 104 / 2 ^ (2 * scaleOf n)
+unfoldable pub scaledWhole : ℕ → ℕ
+scaledWhole n = n * 2 ^ 104 / 2 ^ (2 * scaleOf n)
 
 -- R * 2 ^ F
 unfoldable pub unitsRoot : ℕ → Float
-unitsRoot n = odd 53 false (wholeRoot (scaled n)) (scaleOf n) 589
+unitsRoot n = odd 53 false (wholeRoot (scaledWhole n)) (scaleOf n) 589
 
 -- The zeros and +infinity are their own roots. NaN and what is below 0 have the root NaN.
 unfoldable pub rootOf : Float → Float

@@ -6,7 +6,7 @@ mod guess;
 mod root;
 mod sign;
 mod table;
-mod words;
+mod halves;
 
 pub use bits::bits_of;
 pub use bits::not_a_number;

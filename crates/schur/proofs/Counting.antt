@@ -16,7 +16,7 @@ use Rattle.pass.specs.Pair.{Pair}
 use Rattle.schur.specs.declared.run.Ran.{Ran}
 use Rattle.schur.specs.declared.run.Ran.the-variants.{Ended, BudgetReached, Unfit}
 use Rattle.schur.specs.Run.{Running, passesAt, closed, delimiting, after, turnTwo, turnMore, turnOf, runFrom, opened, Left, answered, ranOf, countOf}
-use Rattle.schur.proofs.Answering.{answered-reached, answered-ended}
+use Rattle.schur.proofs.RunAnswers.{answered-reached, answered-ended}
 
 -- ---- a turn counts 1, or it closes the window and goes uncounted
 

@@ -3,4 +3,4 @@
 pub mod Independent
 pub mod Counting
 pub mod Lengths
-mod Answering
+mod RunAnswers

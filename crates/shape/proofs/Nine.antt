@@ -20,8 +20,8 @@ use Rattle.refusal.specs.declared.search.Search.the-variants.{Nowhere}
 use Rattle.refusal.specs.Refusal.{toldOf, refuseAt}
 use Rattle.refusal.specs.Search.{firstNotFinite}
 use Rattle.refusal.specs.Shape.{QuasiTriangular}
-use Rattle.refusal.proofs.Checking.{Only, only-next, only-at}
-use Rattle.refusal.proofs.Passing.{only-asked}
+use Rattle.refusal.proofs.ChecksInTurn.{Only, only-next, only-at}
+use Rattle.refusal.proofs.PassedChecks.{only-asked}
 use Rattle.refusal.proofs.Shape.{nowhere-finite, shape-nowhere}
 use Rattle.pass.specs.declared.setting.Setting.{Setting}
 use Rattle.pass.specs.Pair.{Pair, pair}
@@ -32,7 +32,7 @@ use Rattle.decomposition.specs.declared.Decomposed.{Decomposed}
 use Rattle.decomposition.specs.declared.Decomposed.the-variants.{Declined}
 use Rattle.decomposition.specs.Checks.{argumentChecks, resultChecks}
 use Rattle.decomposition.specs.Decomposition.{verdict, entryOf}
-use Rattle.decomposition.proofs.Passing.{Sizes, all-right, all-lent}
+use Rattle.decomposition.proofs.CheckedArguments.{Sizes, all-right, all-lent}
 use Rattle.decomposition.proofs.Touched.{as-refused}
 use Rattle.plain.specs.Plain.{plainBudget, plainAsked, plainOf}
 use Rattle.plain.proofs.PlainRun.{plain-passed, plain-run}

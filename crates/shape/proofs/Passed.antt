@@ -14,7 +14,7 @@ use Rattle.loops.specs.Place.{place}
 use Rattle.loops.specs.Rounded.{_!_}
 use Rattle.loops.specs.Times.{range-walk}
 use Rattle.scalar.specs.Class.{isZero}
-use Rattle.matrix.specs.Vectors.{two, three}
+use Rattle.matrix.specs.Vectors.{list2, list3}
 use Rattle.matrix.specs.declared.vector.Vector3.{Vector3}
 use Rattle.matrix.proofs.Fitting.{fitting}
 use Rattle.window.specs.declared.Window.{Window}
@@ -32,14 +32,14 @@ use Rattle.shape.proofs.Bulge.{Chased, step-chased}
 -- ---- a step
 
 -- past the first step the column is the bulge's
-bulge-holds : (n s k : ℕ) (first : Vector3) (t : List Float) → s < k → (m : ℕ) → m < 3 → three (columnAt n s k first t) ! m ≡ t ! place n (k + m) (k - 1)
+bulge-holds : (n s k : ℕ) (first : Vector3) (t : List Float) → s < k → (m : ℕ) → m < 3 → list3 (columnAt n s k first t) ! m ≡ t ! place n (k + m) (k - 1)
 unfolding columnAt bulge
 bulge-holds n s k first t l zero h = rw (lt-leb k s l, add-zero)
 bulge-holds n s k first t l (suc zero) h = rw (lt-leb k s l)
 bulge-holds n s k first t l (suc (suc zero)) h = rw (lt-leb k s l)
 bulge-holds n s k first t l (suc (suc (suc m))) h = absurd (omega arith)
 
-end-holds : (n k : ℕ) (t : List Float) (m : ℕ) → m < 2 → two (bulgeEnd n k t) ! m ≡ t ! place n (k + m) (k - 1)
+end-holds : (n k : ℕ) (t : List Float) (m : ℕ) → m < 2 → list2 (bulgeEnd n k t) ! m ≡ t ! place n (k + m) (k - 1)
 unfolding bulgeEnd
 end-holds n k t zero h = rw add-zero
 end-holds n k t (suc zero) h = refl
@@ -73,7 +73,7 @@ module _ (asked : Setting) (w : Window) (p : Pair) (o : Open (asked .order) w (p
   chased-on : (k : ℕ) → s ≤ k → k < e - 1 → Chased n s e k (p .t) (before k .t) → Chased n s e (k + 1) (p .t) (chased asked w first k (before k) .t)
   unfolding chased before axisColumn
   chased-on k a b z =
-      let column = three (columnAt n s k first (before k .t)) in
+      let column = list3 (columnAt n s k first (before k .t)) in
       let far : axisColumn asked w p k ≡ column = rw (ne-eqb k (e - 1) (λ q. omega arith)) in
       step-chased asked w k column (p .t) (before k) (omega arith) (bulge-holds n s k first (before k .t)) (rw far at (no-axis k a (omega arith))) z
 
@@ -82,7 +82,7 @@ module _ (asked : Setting) (w : Window) (p : Pair) (o : Open (asked .order) w (p
   unfolding closing before axisColumn
   closed-off z =
       let k = e - 1 in
-      let column = two (bulgeEnd n k (before k .t)) in
+      let column = list2 (bulgeEnd n k (before k .t)) in
       let last : axisColumn asked w p k ≡ column = rw (eq-eqb k k refl) in
       step-chased asked w k column (p .t) (before k) (omega arith) (λ _. end-holds n k (before k .t)) (rw last at (no-axis k (omega arith) (omega arith))) z
 

@@ -9,7 +9,7 @@ use lib.Ieee.{Float}
 use Rattle.loops.specs.First.{some}
 use Rattle.loops.specs.Times.{range}
 use Rattle.matrix.specs.Sum.{bare}
-use Rattle.matrix.specs.Vectors.{two, three}
+use Rattle.matrix.specs.Vectors.{list2, list3}
 use Rattle.householder.specs.Axis.{Way, Reflected, AllZero, TooSmall, wayOf}
 use Rattle.window.specs.declared.Window.{Window}
 use Rattle.pass.specs.declared.setting.Setting.{Setting}
@@ -42,7 +42,7 @@ axisColumn asked w p k =
     let n = asked .order in
     let first = firstColumn n (w .start) (w .end) (p .t) in
     let t = passTo asked w p k .t in
-    cond (eqb k (w .end - 1)) (two (bulgeEnd n k t)) (three (columnAt n (w .start) k first t))
+    cond (eqb k (w .end - 1)) (list2 (bulgeEnd n k t)) (list3 (columnAt n (w .start) k first t))
 
 -- in some step, from the window's start to the row above its end
 unfoldable pub passVanished : Setting → Window → Pair → Bool

@@ -14,7 +14,7 @@ use Rattle.loops.specs.Table.{table-length, table-of}
 use Rattle.matrix.specs.Vectors.{filled}
 use Rattle.matrix.proofs.Each.{filled-length, filled-at}
 use Rattle.words.specs.Floats.{floatsOf, bytesOf, zeros}
-use Rattle.words.proofs.Listing.{floatsOf-length}
+use Rattle.words.proofs.FloatLoops.{floatsOf-length}
 
 pub zeros-length : (k : ℕ) → length (zeros k) ≡ k
 unfolding zeros

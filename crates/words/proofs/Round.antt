@@ -13,7 +13,7 @@ use lib.Ieee.Bits.{ofBits-toBits, toBits-lt}
 use Rattle.loops.specs.Rounded.{_!_}
 use Rattle.words.specs.Words.{le64, byteOf}
 use Rattle.words.specs.Floats.{floatsOf, bytesOf}
-use Rattle.words.proofs.Listing.{floatsOf-length, floatsOf-at, bytesOf-length, bytesOf-at}
+use Rattle.words.proofs.FloatLoops.{floatsOf-length, floatsOf-at, bytesOf-length, bytesOf-at}
 
 -- eight digits in base 256 make a number: digit k is taken off what is left at k, and the rest goes on
 made : (digit left : ℕ → ℕ) → ((k : ℕ) → digit k + left (k + 1) * 256 ≡ left k)

@@ -1,7 +1,7 @@
 -- `decomposition::check_all_lengths` meets its contract. Assumes nothing.
 use native.Mathlib.Omega.{arith}
 use Rattle.loops.specs.Place.{square-64}
-use Rattle.refusal.proofs.Checking.{next-first, next-then}
+use Rattle.refusal.proofs.ChecksInTurn.{next-first, next-then}
 use Rattle.decomposition.specs.Checks.{allLengths}
 use Rattle.decomposition.proofs.check_all_lengths.Statement.{statement}
 use Rattle.decomposition.proofs.check_all_lengths.Tie as tie

@@ -1,8 +1,8 @@
 -- `decomposition::check_arguments` meets its contract. Assumes nothing.
 use native.Mathlib.Omega.{arith}
 use mathlib.Core.Path.{sym, _∙_}
-use Rattle.refusal.proofs.Checking.{next-first, next-then}
-use Rattle.refusal.proofs.Passing.{order-passed}
+use Rattle.refusal.proofs.ChecksInTurn.{next-first, next-then}
+use Rattle.refusal.proofs.PassedChecks.{order-passed}
 use Rattle.decomposition.specs.Checks.{argumentChecks}
 use Rattle.decomposition.proofs.check_arguments.Statement.{statement}
 use Rattle.decomposition.proofs.check_arguments.Tie as tie

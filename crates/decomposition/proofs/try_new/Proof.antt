@@ -7,7 +7,7 @@ use Rattle.matrix.proofs.Copied.{copied-whole}
 use Rattle.pass.specs.Pair.{pair}
 use Rattle.schur.specs.Run.{ranOf, runFits}
 use Rattle.decomposition.specs.Decomposition.{judged}
-use Rattle.decomposition.proofs.Passing.{Sizes, all-right, all-lent, sizes-fit}
+use Rattle.decomposition.proofs.CheckedArguments.{Sizes, all-right, all-lent, sizes-fit}
 use Rattle.decomposition.proofs.Promised.{promised}
 use Rattle.decomposition.proofs.Touched.{untouched, run-judged}
 use Rattle.decomposition.proofs.try_new.Statement.{statement}

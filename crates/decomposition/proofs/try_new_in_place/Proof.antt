@@ -3,7 +3,7 @@ use native.Mathlib.Omega.{arith}
 use mathlib.Core.Path.{sym, _∙_}
 use borrow.Author.Needs.{needs}
 use Rattle.pass.specs.Pair.{pair}
-use Rattle.decomposition.proofs.Passing.{all-right, all-lent, sizes-fit}
+use Rattle.decomposition.proofs.CheckedArguments.{all-right, all-lent, sizes-fit}
 use Rattle.decomposition.proofs.Promised.{promised}
 use Rattle.decomposition.proofs.Touched.{untouched, run-judged}
 use Rattle.decomposition.proofs.try_new_in_place.Statement.{statement}

@@ -1,7 +1,7 @@
 -- `door::manulsek_decompose` meets its contract. Assumes nothing.
 use native.Mathlib.Omega.{arith}
 use mathlib.Core.Path.{sym, _∙_}
-use Rattle.door.proofs.MatricesAnswering.{decompose-kept, decompose-ran}
+use Rattle.door.proofs.MatrixBytes.{decompose-kept, decompose-ran}
 use Rattle.door.proofs.manulsek_decompose.Statement.{statement}
 use Rattle.door.proofs.manulsek_decompose.Tie as tie
 

@@ -2,7 +2,7 @@
 use native.Mathlib.Omega.{arith}
 use mathlib.Core.Path.{_∙_}
 use Rattle.refusal.specs.Checks.{givenChecks}
-use Rattle.refusal.proofs.Checking.{next-first, next-then, next-assoc}
+use Rattle.refusal.proofs.ChecksInTurn.{next-first, next-then, next-assoc}
 use Rattle.plain.proofs.check_arguments.Statement.{statement}
 use Rattle.plain.proofs.check_arguments.Tie as tie
 

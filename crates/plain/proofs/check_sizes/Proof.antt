@@ -1,8 +1,8 @@
 -- `plain::check_sizes` meets its contract. Assumes nothing.
 use native.Mathlib.Omega.{arith}
 use mathlib.Core.Path.{sym, _∙_}
-use Rattle.refusal.proofs.Checking.{next-first, next-then}
-use Rattle.refusal.proofs.Passing.{order-passed}
+use Rattle.refusal.proofs.ChecksInTurn.{next-first, next-then}
+use Rattle.refusal.proofs.PassedChecks.{order-passed}
 use Rattle.plain.proofs.check_sizes.Statement.{statement}
 use Rattle.plain.proofs.check_sizes.Tie as tie
 

@@ -2,7 +2,7 @@
 use native.Mathlib.Omega.{arith}
 use mathlib.Core.Path.{sym, ap, _∙_}
 use borrow.Author.Needs.{needs}
-use Rattle.decomposition.proofs.Passing.{judged-work}
+use Rattle.decomposition.proofs.CheckedArguments.{judged-work}
 use Rattle.eigenvalues.proofs.Real.{diagonal-fits}
 use Rattle.plain.proofs.Plainly.{run-fits, run-refused, run-read}
 use Rattle.plain.proofs.plain_run.Statement.{statement}

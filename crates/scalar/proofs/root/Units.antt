@@ -14,7 +14,7 @@ use lib.Ieee.Digits.{size-lt, size-le}
 use lib.Ieee.Fits.{down-pos}
 use lib.Ieee.Exact.{HasValue, odd-sign}
 use borrow.Author.Tests.{lt-leb, le-leb, ne-eqb, lt-ltb, le-ltb}
-use Rattle.scalar.specs.Root.{scaleOf, scaled, unitsRoot, rootOf, wholeRoot}
+use Rattle.scalar.specs.Root.{scaleOf, scaledWhole, unitsRoot, rootOf, wholeRoot}
 use Rattle.scalar.specs.Rooted.{Near}
 use Rattle.scalar.specs.Inner.{unitsOf, Placed}
 use Rattle.scalar.proofs.root.Whole.{wholeRoot-is, near-low, near-high}
@@ -46,8 +46,8 @@ scaleOf-is n top h e a b =
 regroup : (n top P : ℕ) → n * 2 ^ 62 ≡ top * P → n * 2 ^ 104 ≡ top * 2 ^ 42 * P
 regroup n top P e = omega arith
 
-pub scaled-is : (n top h : ℕ) → n * 2 ^ 62 ≡ top * 2 ^ (2 * h) → 2 ^ 62 ≤ top → top < 2 ^ 64 → scaled n ≡ top * 2 ^ 42
-unfolding scaled
+pub scaled-is : (n top h : ℕ) → n * 2 ^ 62 ≡ top * 2 ^ (2 * h) → 2 ^ 62 ≤ top → top < 2 ^ 64 → scaledWhole n ≡ top * 2 ^ 42
+unfolding scaledWhole
 scaled-is n top h e a b =
     ap (λ (x : ℕ). n * 2 ^ 104 / 2 ^ (2 * x)) (scaleOf-is n top h e a b)
     ∙ ap (λ (x : ℕ). x / 2 ^ (2 * h)) (regroup n top (2 ^ (2 * h)) e)
@@ -58,7 +58,7 @@ unfolding unitsRoot
 unitsRoot-is n top h R e a b r =
     let p : 0 < top * 2 ^ 42 = omega arith in
     let q : top * 2 ^ 42 < 2 ^ 106 = omega arith in
-    ap (λ (x : ℕ). odd 53 false (wholeRoot (scaled n)) x 589) (scaleOf-is n top h e a b)
+    ap (λ (x : ℕ). odd 53 false (wholeRoot (scaledWhole n)) x 589) (scaleOf-is n top h e a b)
     ∙ ap (λ (x : ℕ). odd 53 false x h 589) (ap wholeRoot (scaled-is n top h e a b) ∙ wholeRoot-is (top * 2 ^ 42) R p q r)
 
 -- ---- k - l, with as much added to both

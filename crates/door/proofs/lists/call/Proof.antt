@@ -1,7 +1,7 @@
 -- `door::lists::call` meets its contract. Assumes nothing.
 use native.Mathlib.Omega.{arith}
 use mathlib.Core.Path.{sym, _∙_}
-use Rattle.door.proofs.ListsPassing.{kept}
+use Rattle.door.proofs.ListLengths.{kept}
 use Rattle.door.proofs.lists.call.Statement.{statement}
 use Rattle.door.proofs.lists.call.Tie as tie
 

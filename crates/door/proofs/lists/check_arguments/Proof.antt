@@ -2,8 +2,8 @@
 use native.Mathlib.Omega.{arith}
 use mathlib.Core.Path.{sym, _∙_}
 use Rattle.refusal.specs.Checks.{givenChecks}
-use Rattle.refusal.proofs.Checking.{next-first, next-then}
-use Rattle.refusal.proofs.Passing.{order-passed}
+use Rattle.refusal.proofs.ChecksInTurn.{next-first, next-then}
+use Rattle.refusal.proofs.PassedChecks.{order-passed}
 use Rattle.door.specs.Lists.{listChecks}
 use Rattle.door.proofs.lists.check_arguments.Statement.{statement}
 use Rattle.door.proofs.lists.check_arguments.Tie as tie

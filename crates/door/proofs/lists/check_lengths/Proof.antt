@@ -1,7 +1,7 @@
 -- `door::lists::check_lengths` meets its contract. Assumes nothing.
 use native.Mathlib.Omega.{arith}
 use Rattle.loops.specs.Place.{square-64}
-use Rattle.refusal.proofs.Checking.{next-first, next-then}
+use Rattle.refusal.proofs.ChecksInTurn.{next-first, next-then}
 use Rattle.door.specs.Lists.{listLengths}
 use Rattle.door.proofs.lists.check_lengths.Statement.{statement}
 use Rattle.door.proofs.lists.check_lengths.Tie as tie

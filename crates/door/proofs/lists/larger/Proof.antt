@@ -1,7 +1,7 @@
 -- `door::lists::larger` meets its contract. Assumes nothing.
 use native.Mathlib.Omega.{arith}
 use native.Mathlib.Nat.{mul-le-mul}
-use Rattle.door.proofs.ListsPassing.{list-fit}
+use Rattle.door.proofs.ListLengths.{list-fit}
 use Rattle.door.proofs.lists.larger.Statement.{statement}
 use Rattle.door.proofs.lists.larger.Tie as tie
 

@@ -12,8 +12,8 @@ use Rattle.door.specs.declared.lists.ListEntry.{ListEntry}
 use Rattle.door.specs.declared.lists.ListEntry.the-variants.{Complex}
 use Rattle.door.specs.Lists.{secondLength}
 use Rattle.door.specs.Inner.{secondSize, evaluatedBy}
-use Rattle.door.proofs.ListsPassing.{ListFit, list-fit, complex-second}
-use Rattle.door.proofs.ListsAnswering.{read}
+use Rattle.door.proofs.ListLengths.{ListFit, list-fit, complex-second}
+use Rattle.door.proofs.ListBytes.{list-read}
 use Rattle.door.proofs.lists.on_floats.Statement.{statement}
 use Rattle.door.proofs.lists.on_floats.Tie as tie
 
@@ -47,7 +47,7 @@ returns c =
     let x = start .args in
     let pre = start .pre in
     let floats = decoded (x .m .now) (x .a .now) _ (fit start .matrix) (pre .1) (after-decode .decode .ensures) in
-    read (x .c .entry) (x .c .order) (x .m .now) (x .re .now) (x .im .now) _ _ (x .x .now) _ (x .y .now) _ _ _ (pre .0) (pre .2) (pre .3)
+    list-read (x .c .entry) (x .c .order) (x .m .now) (x .re .now) (x .im .now) _ _ (x .x .now) _ (x .y .now) _ _ _ (pre .0) (pre .2) (pre .3)
     (after-evaluate .evaluate .ensures ∙ ap (λ a. evaluatedBy (x .c .entry) (x .c .order) a (x .x .now) (x .y .now)) floats)
     (listed .write-list .ensures) (second .write-second .ensures) (c .checked-number .ensures)
 

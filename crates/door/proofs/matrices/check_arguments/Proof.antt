@@ -3,8 +3,8 @@ use native.Mathlib.Omega.{arith}
 use mathlib.Core.Path.{sym, _∙_}
 use Prim.Native.Nat.{_*_, _≤_}
 use Rattle.loops.specs.Place.{square-64}
-use Rattle.refusal.proofs.Checking.{next-first, next-then}
-use Rattle.refusal.proofs.Passing.{order-passed}
+use Rattle.refusal.proofs.ChecksInTurn.{next-first, next-then}
+use Rattle.refusal.proofs.PassedChecks.{order-passed}
 use Rattle.decomposition.specs.Checks.{argumentChecks}
 use Rattle.door.specs.Matrices.{matrixChecks}
 use Rattle.door.proofs.matrices.check_arguments.Statement.{statement}

@@ -1,7 +1,7 @@
 -- `door::matrices::larger` meets its contract. Assumes nothing.
 use native.Mathlib.Omega.{arith}
 use native.Mathlib.Nat.{mul-le-mul}
-use Rattle.door.proofs.MatricesPassing.{matrix-fit}
+use Rattle.door.proofs.MatrixLengths.{matrix-fit}
 use Rattle.door.proofs.matrices.larger.Statement.{statement}
 use Rattle.door.proofs.matrices.larger.Tie as tie
 

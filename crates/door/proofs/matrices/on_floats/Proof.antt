@@ -6,13 +6,17 @@ use Prim.Native.Nat.{_*_}
 use Rattle.pass.specs.Pair.{pair}
 use Rattle.decomposition.specs.Decomposition.{settlement}
 use Rattle.words.proofs.Between.{zeros-length, floats-length, decoded, encoded}
-use Rattle.door.proofs.MatricesPassing.{MatrixFit, matrix-fit, run-fits}
-use Rattle.door.proofs.MatricesAnswering.{ran}
+use Rattle.door.proofs.MatrixLengths.{MatrixFit, matrix-fit, run-fits}
+use Rattle.door.proofs.MatrixBytes.{ran}
 use Rattle.door.proofs.matrices.on_floats.Statement.{statement}
 use Rattle.door.proofs.matrices.on_floats.Tie as tie
 
 fit : (c : tie.Start) → let x = c .args in MatrixFit (x .r) (length (x .m .now)) (length (x .t .now)) (length (x .q .now))
 fit c = matrix-fit _ (c .args .m .now) _ _ (c .pre .0)
+
+-- too far back to be found from the end in one step
+abbrev start-of : tie.After-decode → tie.Start
+start-of c = search
 
 write-q-requires : tie.Need-write-q-requires
 write-q-requires c κs =
@@ -21,13 +25,13 @@ write-q-requires c κs =
 
 returns : tie.Need-returns
 returns c =
-    let start : tie.Start = search in
     let after-write-q : tie.After-write-q = search in
     let after-encode : tie.After-encode = search in
     let after-decide : tie.After-decide = search in
     let after-do-decompose : tie.After-do-decompose = search in
     let after-decode : tie.After-decode = search in
     let after-asked-by : tie.After-asked-by = search in
+    let start = start-of after-decode in
     let x = start .args in
     let pre = start .pre in
     let floats = decoded (x .m .now) (x .a .now) _ (fit start .matrix) (pre .1) (after-decode .decode .ensures) in

@@ -4,7 +4,7 @@ use mathlib.Core.Path.{sym, ap, _∙_}
 use Rattle.matrix.proofs.Kernels.{entryOf-there}
 use Rattle.eigenvalues.specs.declared.block.BlockAnswer.the-variants.{One, Pair}
 use Rattle.eigenvalues.specs.Blocks.{pairOf}
-use Rattle.eigenvalues.proofs.Answering.{paired-inside, answer-pair, answer-one}
+use Rattle.eigenvalues.proofs.BlockAnswers.{paired-inside, answer-pair, answer-one}
 use Rattle.eigenvalues.proofs.block.answer_at.Statement.{statement}
 use Rattle.eigenvalues.proofs.block.answer_at.Tie as tie
 

@@ -1,6 +1,6 @@
 -- `eigenvalues::block::block_at` meets its contract. Assumes nothing.
 use native.Mathlib.Omega.{arith}
-use Rattle.eigenvalues.proofs.Answering.{block-read}
+use Rattle.eigenvalues.proofs.BlockAnswers.{block-read}
 use Rattle.eigenvalues.proofs.block.block_at.Statement.{statement}
 use Rattle.eigenvalues.proofs.block.block_at.Tie as tie
 

@@ -6,7 +6,7 @@ use lib.Ieee.{le}
 use Rattle.loops.specs.Constants.{zero}
 use Rattle.matrix.proofs.Fitting.{inside, outside}
 use Rattle.pass.specs.Block.{discriminant}
-use Rattle.eigenvalues.proofs.Answering.{paired-inside, complex-none, complex-by}
+use Rattle.eigenvalues.proofs.BlockAnswers.{paired-inside, complex-none, complex-by}
 use Rattle.eigenvalues.proofs.block.is_not_complex.Statement.{statement}
 use Rattle.eigenvalues.proofs.block.is_not_complex.Tie as tie
 

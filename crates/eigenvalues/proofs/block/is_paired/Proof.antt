@@ -4,7 +4,7 @@ use mathlib.Core.Bool.{not}
 use mathlib.Core.Path.{ap, _∙_}
 use Rattle.scalar.specs.Class.{isZero}
 use Rattle.matrix.proofs.Kernels.{entryOf-there}
-use Rattle.eigenvalues.proofs.Answering.{paired-last, paired-by}
+use Rattle.eigenvalues.proofs.BlockAnswers.{paired-last, paired-by}
 use Rattle.eigenvalues.proofs.block.is_paired.Statement.{statement}
 use Rattle.eigenvalues.proofs.block.is_paired.Tie as tie
 

@@ -3,7 +3,7 @@ use native.Mathlib.Omega.{arith}
 use Prim.Native.Nat.{_-_}
 use mathlib.Core.Path.{sym, _∙_}
 use Rattle.eigenvalues.specs.Blocks.{paired}
-use Rattle.eigenvalues.proofs.Diagonal.{Sought, sought-none, sought-more, any-here, any-none}
+use Rattle.eigenvalues.proofs.DiagonalSearch.{Sought, sought-none, sought-more, any-here, any-none}
 use Rattle.eigenvalues.proofs.readers.any_paired.Statement.{statement}
 use Rattle.eigenvalues.proofs.readers.any_paired.Tie as tie
 

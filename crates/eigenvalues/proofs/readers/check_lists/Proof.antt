@@ -1,6 +1,6 @@
 -- `eigenvalues::readers::check_lists` meets its contract. Assumes nothing.
 use native.Mathlib.Omega.{arith}
-use Rattle.refusal.proofs.Checking.{next-first, next-then}
+use Rattle.refusal.proofs.ChecksInTurn.{next-first, next-then}
 use Rattle.eigenvalues.proofs.readers.check_lists.Statement.{statement}
 use Rattle.eigenvalues.proofs.readers.check_lists.Tie as tie
 

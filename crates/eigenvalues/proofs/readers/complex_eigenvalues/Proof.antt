@@ -3,7 +3,7 @@ use native.Mathlib.Omega.{arith}
 use mathlib.Core.Path.{_≡_, sym, _∙_}
 use lib.ListN.{length}
 use Rattle.eigenvalues.specs.Readers.{readable, complexChecks, complexLengths, complexRead}
-use Rattle.eigenvalues.proofs.Checking.{readable-fit, complex-room}
+use Rattle.eigenvalues.proofs.ReaderChecks.{readable-fit, complex-room}
 use Rattle.eigenvalues.proofs.readers.complex_eigenvalues.Statement.{statement}
 use Rattle.eigenvalues.proofs.readers.complex_eigenvalues.Tie as tie
 

@@ -3,7 +3,7 @@ use native.Mathlib.Omega.{arith}
 use mathlib.Core.Path.{_≡_, sym, _∙_}
 use lib.ListN.{length}
 use Rattle.eigenvalues.specs.Readers.{finiteReadable, complexLengths, complexFiniteOf}
-use Rattle.eigenvalues.proofs.Checking.{finite-fit, complex-room}
+use Rattle.eigenvalues.proofs.ReaderChecks.{finite-fit, complex-room}
 use Rattle.eigenvalues.proofs.readers.complex_eigenvalues_of_finite.Statement.{statement}
 use Rattle.eigenvalues.proofs.readers.complex_eigenvalues_of_finite.Tie as tie
 

@@ -4,9 +4,9 @@ use mathlib.Core.Path.{_≡_, sym, _∙_}
 use lib.ListN.{length}
 use Rattle.refusal.specs.Refusal.{_next_}
 use Rattle.refusal.specs.Checks.{orderChecks}
-use Rattle.refusal.proofs.Checking.{next-assoc}
+use Rattle.refusal.proofs.ChecksInTurn.{next-assoc}
 use Rattle.eigenvalues.specs.Readers.{realLengths, diagonalIfReal}
-use Rattle.eigenvalues.proofs.Checking.{sizes-fit, real-room}
+use Rattle.eigenvalues.proofs.ReaderChecks.{sizes-fit, real-room}
 use Rattle.eigenvalues.proofs.readers.diagonal_if_real.Statement.{statement}
 use Rattle.eigenvalues.proofs.readers.diagonal_if_real.Tie as tie
 

@@ -3,7 +3,7 @@ use native.Mathlib.Omega.{arith}
 use Prim.Native.Nat.{_-_}
 use mathlib.Core.Path.{_≡_, ap, _∙_}
 use Rattle.eigenvalues.specs.Blocks.{answerBefore, eigenvalueAt}
-use Rattle.eigenvalues.proofs.Answering.{before-first, before-next, eigenvalue-by}
+use Rattle.eigenvalues.proofs.BlockAnswers.{before-first, before-next, eigenvalue-by}
 use Rattle.eigenvalues.proofs.Filling.{Filled, filled-none, filled-more, filled-done}
 use Rattle.eigenvalues.proofs.readers.do_complex_eigenvalues.Statement.{statement}
 use Rattle.eigenvalues.proofs.readers.do_complex_eigenvalues.Tie as tie

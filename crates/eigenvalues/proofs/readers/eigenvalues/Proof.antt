@@ -3,7 +3,7 @@ use native.Mathlib.Omega.{arith}
 use mathlib.Core.Path.{_≡_, sym, _∙_}
 use lib.ListN.{length}
 use Rattle.eigenvalues.specs.Readers.{readable, realChecks, realLengths, realRead}
-use Rattle.eigenvalues.proofs.Checking.{readable-fit, real-room}
+use Rattle.eigenvalues.proofs.ReaderChecks.{readable-fit, real-room}
 use Rattle.eigenvalues.proofs.Real.{real-held}
 use Rattle.eigenvalues.proofs.readers.eigenvalues.Statement.{statement}
 use Rattle.eigenvalues.proofs.readers.eigenvalues.Tie as tie

@@ -1,6 +1,6 @@
 -- `eigenvalues::readers::finite_readable` meets its contract. Assumes nothing.
 use native.Mathlib.Omega.{arith}
-use Rattle.refusal.proofs.Checking.{next-assoc}
+use Rattle.refusal.proofs.ChecksInTurn.{next-assoc}
 use Rattle.eigenvalues.specs.Readers.{finiteReadable}
 use Rattle.eigenvalues.proofs.readers.finite_readable.Statement.{statement}
 use Rattle.eigenvalues.proofs.readers.finite_readable.Tie as tie

@@ -3,7 +3,7 @@ use native.Mathlib.Omega.{arith}
 use Prim.Native.Nat.{_-_}
 use mathlib.Core.Path.{sym, _∙_}
 use Rattle.eigenvalues.specs.Blocks.{notComplex}
-use Rattle.eigenvalues.proofs.Diagonal.{Sought, sought-none, sought-more, place-here, place-none}
+use Rattle.eigenvalues.proofs.DiagonalSearch.{Sought, sought-none, sought-more, place-here, place-none}
 use Rattle.eigenvalues.proofs.readers.first_not_complex.Statement.{statement}
 use Rattle.eigenvalues.proofs.readers.first_not_complex.Tie as tie
 

@@ -5,8 +5,8 @@ use mathlib.Core.Bool.{not}
 use mathlib.Core.Path.{_≡_, sym, _∙_}
 use Rattle.eigenvalues.specs.Blocks.{answerBefore}
 use Rattle.eigenvalues.specs.Readers.{notFiniteAt}
-use Rattle.eigenvalues.proofs.Answering.{before-first, before-next, finite-by}
-use Rattle.eigenvalues.proofs.Diagonal.{Sought, sought-none, sought-more, place-here, place-none}
+use Rattle.eigenvalues.proofs.BlockAnswers.{before-first, before-next, finite-by}
+use Rattle.eigenvalues.proofs.DiagonalSearch.{Sought, sought-none, sought-more, place-here, place-none}
 use Rattle.eigenvalues.proofs.readers.first_value_not_finite.Statement.{statement}
 use Rattle.eigenvalues.proofs.readers.first_value_not_finite.Tie as tie
 

@@ -1,12 +1,12 @@
 -- `eigenvalues::readers::then_diagonal` meets its contract. Assumes nothing.
 use native.Mathlib.Omega.{arith}
 use Rattle.refusal.specs.Refusal.{_next_, ifPassed}
-use Rattle.eigenvalues.specs.Readers.{listed}
+use Rattle.eigenvalues.specs.Readers.{leftBy}
 use Rattle.eigenvalues.proofs.readers.then_diagonal.Statement.{statement}
 use Rattle.eigenvalues.proofs.readers.then_diagonal.Tie as tie
 
 returns : tie.Need-returns
-unfolding _next_ listed ifPassed
+unfolding _next_ leftBy ifPassed
 returns c = rw (c .enum-told2 .given .1)
 
 diagonal-of-requires : tie.Need-diagonal-of-requires

@@ -5,7 +5,7 @@ use lib.ListN.{length-set}
 use Rattle.matrix.proofs.Walks.{Down, down-refused, down-begun, down-more, down-done}
 use Rattle.givens.specs.Rotation.{rotation}
 use Rattle.givens.specs.Rotated.{turnedRows, rotated}
-use Rattle.givens.proofs.Turning.{turn-down}
+use Rattle.givens.proofs.RotatedTurns.{turn-down}
 use Rattle.givens.proofs.Rotation.rotate.Statement.{statement}
 use Rattle.givens.proofs.Rotation.rotate.Tie as tie
 

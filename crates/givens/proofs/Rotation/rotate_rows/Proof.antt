@@ -5,7 +5,7 @@ use lib.ListN.{length-set}
 use Rattle.matrix.proofs.Walks.{Across, across-refused, across-begun, across-more, across-done}
 use Rattle.givens.specs.Rotation.{rotation}
 use Rattle.givens.specs.Rotated.{turnedColumns, rotatedRows}
-use Rattle.givens.proofs.Turning.{Beside, beside, turn-across}
+use Rattle.givens.proofs.RotatedTurns.{Beside, beside, turn-across}
 use Rattle.givens.proofs.Rotation.rotate_rows.Statement.{statement}
 use Rattle.givens.proofs.Rotation.rotate_rows.Tie as tie
 

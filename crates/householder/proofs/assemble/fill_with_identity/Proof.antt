@@ -5,7 +5,7 @@ use native.Mathlib.Omega.{arith}
 use lib.ListN.{length, length-set}
 use Rattle.loops.specs.Place.{Placed, placed}
 use Rattle.loops.specs.Times.{times, times-none, times-more, times-done}
-use Rattle.householder.proofs.Diagonal.{ones, ones-identity}
+use Rattle.householder.proofs.Identity.{ones, ones-identity}
 use Rattle.householder.proofs.assemble.fill_with_identity.Statement.{statement}
 use Rattle.householder.proofs.assemble.fill_with_identity.Tie as tie
 

@@ -6,7 +6,7 @@ use borrow.Author.Tests.{ne-eqb}
 use lib.ListN.{length, length-take, length-drop}
 use Rattle.loops.specs.Rounded.{_⊕_}
 use Rattle.loops.specs.Times.{times, times-none, times-more}
-use Rattle.matrix.specs.Sum.{lane, joined}
+use Rattle.matrix.specs.Sum.{lane, lanesSummed}
 use Rattle.matrix.specs.Vectors.{products, dotOf}
 use Rattle.matrix.proofs.Sums.{lane-none}
 use Rattle.matrix.proofs.Moving.{Moved, moved-none, moved-lane, moved-more, moved-done}
@@ -80,7 +80,7 @@ loop2-again c =
     (omega arith, rw (times-more, ← inv .1, c .plus9 .ensures))
 
 returns-2 : tie.Need-returns-2 Inv-loop μ-loop Inv-loop2 μ-loop2
-unfolding joined
+unfolding lanesSummed
 returns-2 c =
     let inv = c .before .before .before .loop .inv in
     c .before .loop2 .inv .1

@@ -5,7 +5,7 @@ use native.Mathlib.Omega.{arith}
 use lib.Ieee.{binary64, toBits}
 use Rattle.loops.specs.Rounded.{_!_}
 use Rattle.record.specs.Text.{eigenvalueLine, eigenvalueLines}
-use Rattle.record.proofs.Listing.{Listing, listing-none, listing-more}
+use Rattle.record.proofs.LineLoop.{Listing, listing-none, listing-more}
 use Rattle.record.proofs.lines.put_eigenvalues.Statement.{statement}
 use Rattle.record.proofs.lines.put_eigenvalues.Tie as tie
 

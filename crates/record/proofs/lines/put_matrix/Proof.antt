@@ -5,7 +5,7 @@ use native.Mathlib.Omega.{arith}
 use lib.Ieee.{binary64, toBits}
 use Rattle.loops.specs.Rounded.{_!_}
 use Rattle.record.specs.Text.{entryLine, matrixLines}
-use Rattle.record.proofs.Listing.{Listing, listing-none, listing-more, Spot, spot}
+use Rattle.record.proofs.LineLoop.{Listing, listing-none, listing-more, Spot, spot}
 use Rattle.record.proofs.Rooms.{square-32}
 use Rattle.record.proofs.lines.put_matrix.Statement.{statement}
 use Rattle.record.proofs.lines.put_matrix.Tie as tie

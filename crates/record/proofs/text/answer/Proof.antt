@@ -5,7 +5,7 @@ use borrow.Author.Needs.{needs}
 use lib.Seq.{length-take-le}
 use Rattle.record.specs.Page.{page, more}
 use Rattle.record.proofs.Paging.{all-printed, none-printed}
-use Rattle.record.proofs.Answering.{short-text}
+use Rattle.record.proofs.CheckedHeader.{short-text}
 use Rattle.record.proofs.text.answer.Statement.{statement}
 use Rattle.record.proofs.text.answer.Tie as tie
 

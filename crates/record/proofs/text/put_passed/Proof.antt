@@ -13,7 +13,6 @@ use Rattle.record.proofs.text.put_passed.Tie as tie
 small : (c : tie.Start) → c .args .h .order * c .args .h .order ≤ 1024
 small c = square-32 (c .args .h .order) (c .pre .1)
 
--- from where the matrix is decomposed: the start; from where its text is put: the place behind the decomposition
 decompose-requires : tie.Need-decompose-requires
 decompose-requires c κs =
     let start : tie.Start = search in
@@ -21,17 +20,15 @@ decompose-requires c κs =
     (start .pre .2, sym (fresh-length _ 1024 s), fresh-zeros _ 1024 s, fresh-zeros _ 64 (omega arith))
 
 put-requires : tie.Need-put-decomposed-requires
-put-requires c κs =
-    let after-decompose-arg2 : tie.After-decompose-arg2 = search in
-    omega (arith, fresh-length _ 1024 (small (start after-decompose-arg2)))
+put-requires c κs = omega (arith, fresh-length _ 1024 (small (search)))
 
 returns : tie.Need-returns
 unfolding matrixText
 returns c =
-    let after-decompose : tie.After-decompose = search in
     let put : tie.After-put-decomposed = search in
-    let run = after-decompose in
-    let x = start (run .before) .args in
+    let run : tie.After-decompose = search in
+    let start : tie.Start = search in
+    let x = start .args in
     (put .put-decomposed .ensures .0 ∙ ap (λ o. more (decomposedText (x .h .order) (o .answer) (o .pair)) (page 0 (x .text .now))) (run .decompose .ensures), omega arith)
 
 pub put-passed-spec : {M : Type 1} → statement M

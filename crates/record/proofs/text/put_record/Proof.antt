@@ -7,7 +7,7 @@ use borrow.Author.Needs.{needs}
 use lib.ListN.{length, length-drop}
 use Rattle.record.specs.Page.{Page, page, more}
 use Rattle.record.specs.Record.{headerOf, headerChecks}
-use Rattle.record.proofs.Answering.{fitting, entries-all, refused-text, passed-text}
+use Rattle.record.proofs.CheckedHeader.{fitting, entries-all, refused-text, passed-text}
 use Rattle.record.proofs.text.put_record.Statement.{statement}
 use Rattle.record.proofs.text.put_record.Tie as tie
 

@@ -3,15 +3,15 @@ use Prim.Native.Nat.{_+_, _-_}
 use native.Mathlib.Omega.{arith}
 use lib.ListN.{length-set}
 use Rattle.matrix.specs.Sum.{bare}
-use Rattle.matrix.specs.Vectors.{two}
+use Rattle.matrix.specs.Vectors.{list2}
 use Rattle.matrix.proofs.Walks.{Down, down-refused, down-begun, down-more, down-done}
 use Rattle.reflection.specs.Reflected.{mirroredColumns, reflected}
-use Rattle.reflection.proofs.Turning.{turn-down-two}
+use Rattle.reflection.proofs.SmallTurns.{turn-down-two}
 use Rattle.reflection.proofs.small.reflect2_with_sign.Statement.{statement}
 use Rattle.reflection.proofs.small.reflect2_with_sign.Tie as tie
 
 abbrev Inv-loop : tie.InvT-loop
-Inv-loop t₀ n row c0 c1 sign x y m-two j₀ t j = Down n row (row + 2) c0 c1 (mirroredColumns bare (two (record { x = x; y = y })) sign n row t₀) t₀ j t
+Inv-loop t₀ n row c0 c1 sign x y m-two j₀ t j = Down n row (row + 2) c0 c1 (mirroredColumns bare (list2 (record { x = x; y = y })) sign n row t₀) t₀ j t
 
 abbrev μ-loop : tie.MeasureT-loop
 μ-loop t₀ n row c0 c1 sign x y m-two j₀ t j = c1 - j

@@ -2,15 +2,15 @@
 use Prim.Native.Nat.{_+_, _-_}
 use native.Mathlib.Omega.{arith}
 use lib.ListN.{length-set}
-use Rattle.matrix.specs.Vectors.{three}
+use Rattle.matrix.specs.Vectors.{list3}
 use Rattle.matrix.proofs.Walks.{Across, across-refused, across-begun, across-more, across-done}
 use Rattle.reflection.specs.Reflected.{mirroredRows, reflectedRows}
-use Rattle.reflection.proofs.Turning.{turn-across-three}
+use Rattle.reflection.proofs.SmallTurns.{turn-across-three}
 use Rattle.reflection.proofs.small.reflect_rows3_with_sign.Statement.{statement}
 use Rattle.reflection.proofs.small.reflect_rows3_with_sign.Tie as tie
 
 abbrev Inv-loop : tie.InvT-loop
-Inv-loop t₀ n rows c0 sign x y z m-two i₀ t i = Across n rows c0 (c0 + 3) (mirroredRows (three (record { x = x; y = y; z = z })) sign n c0 t₀) t₀ i t
+Inv-loop t₀ n rows c0 sign x y z m-two i₀ t i = Across n rows c0 (c0 + 3) (mirroredRows (list3 (record { x = x; y = y; z = z })) sign n c0 t₀) t₀ i t
 
 abbrev μ-loop : tie.MeasureT-loop
 μ-loop t₀ n rows c0 sign x y z m-two i₀ t i = rows - i

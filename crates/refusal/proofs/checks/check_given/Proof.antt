@@ -2,7 +2,7 @@
 use native.Mathlib.Omega.{arith}
 use mathlib.Core.Path.{_∙_}
 use Rattle.refusal.specs.Checks.{givenChecks}
-use Rattle.refusal.proofs.Checking.{next-first, next-then, next-assoc}
+use Rattle.refusal.proofs.ChecksInTurn.{next-first, next-then, next-assoc}
 use Rattle.refusal.proofs.checks.check_given.Statement.{statement}
 use Rattle.refusal.proofs.checks.check_given.Tie as tie
 

@@ -2,7 +2,7 @@
 use native.Mathlib.Omega.{arith}
 use borrow.Author.Tests.{not-true, not-false}
 use Rattle.refusal.specs.Checks.{onlyIf, lentLengths}
-use Rattle.refusal.proofs.Checking.{next-first, next-then}
+use Rattle.refusal.proofs.ChecksInTurn.{next-first, next-then}
 use Rattle.refusal.proofs.checks.check_lent.Statement.{statement}
 use Rattle.refusal.proofs.checks.check_lent.Tie as tie
 

@@ -1,7 +1,7 @@
 -- `refusal::checks::check_matrices` meets its contract. Assumes nothing.
 use native.Mathlib.Omega.{arith}
 use Rattle.refusal.specs.Checks.{matrixLengths}
-use Rattle.refusal.proofs.Checking.{next-first, next-then}
+use Rattle.refusal.proofs.ChecksInTurn.{next-first, next-then}
 use Rattle.refusal.proofs.checks.check_matrices.Statement.{statement}
 use Rattle.refusal.proofs.checks.check_matrices.Tie as tie
 

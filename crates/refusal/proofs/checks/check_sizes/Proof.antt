@@ -2,8 +2,8 @@
 use native.Mathlib.Omega.{arith}
 use mathlib.Core.Path.{refl, sym, _∙_}
 use Rattle.loops.specs.Place.{square-64}
-use Rattle.refusal.proofs.Checking.{next-first, next-then}
-use Rattle.refusal.proofs.Passing.{Ordered, order-passed}
+use Rattle.refusal.proofs.ChecksInTurn.{next-first, next-then}
+use Rattle.refusal.proofs.PassedChecks.{Ordered, order-passed}
 use Rattle.refusal.proofs.checks.check_sizes.Statement.{statement}
 use Rattle.refusal.proofs.checks.check_sizes.Tie as tie
 

@@ -5,7 +5,7 @@ use mathlib.Core.Path.{_≡_}
 use mathlib.Core.Bool.{false≢true}
 use native.Mathlib.Omega.{arith}
 use borrow.Author.Needs.{needs}
-use Rattle.scalar.proofs.words.Laws.{scaled-words}
+use Rattle.scalar.proofs.halves.Laws.{scaled-words}
 use Rattle.scalar.proofs.root.Steps.{take-it}
 use Rattle.scalar.proofs.root.nearest.Statement.{statement}
 use Rattle.scalar.proofs.root.nearest.Tie as tie

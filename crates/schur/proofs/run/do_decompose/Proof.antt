@@ -6,7 +6,7 @@ use Rattle.loops.specs.Constants.{zero}
 use Rattle.matrix.proofs.Each.{filled-same}
 use Rattle.matrix.proofs.Fitting.{inside, outside}
 use Rattle.schur.specs.Run.{runOf, workAfter}
-use Rattle.schur.proofs.Answering.{RunFits, run-fitting}
+use Rattle.schur.proofs.RunAnswers.{RunFits, run-fitting}
 use Rattle.schur.proofs.run.do_decompose.Statement.{statement}
 use Rattle.schur.proofs.run.do_decompose.Tie as tie
 

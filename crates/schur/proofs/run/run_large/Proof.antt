@@ -3,7 +3,7 @@ use native.Mathlib.Omega.{arith}
 use mathlib.Core.Path.{_≡_, ap, _∙_}
 use Rattle.pass.specs.Pair.{pair}
 use Rattle.schur.specs.Run.{running, runFrom, opened}
-use Rattle.schur.proofs.Answering.{answered-reached, answered-ended}
+use Rattle.schur.proofs.RunAnswers.{answered-reached, answered-ended}
 use Rattle.schur.proofs.run.run_large.Statement.{statement}
 use Rattle.schur.proofs.run.run_large.Tie as tie
 

@@ -4,7 +4,7 @@ use native.Mathlib.Omega.{arith}
 use mathlib.Core.Path.{_∙_}
 use borrow.Author.Tests.{eq-eqb, ne-eqb}
 use Rattle.matrix.proofs.Each.{Rewriting, rewriting-none, rewriting-more, rewriting-done}
-use Rattle.words.proofs.Listing.{reading, reading-all}
+use Rattle.words.proofs.FloatLoops.{reading, reading-all}
 use Rattle.words.proofs.floats.decode.Statement.{statement}
 use Rattle.words.proofs.floats.decode.Tie as tie
 

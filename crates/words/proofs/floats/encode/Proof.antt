@@ -4,7 +4,7 @@ use native.Mathlib.Omega.{arith}
 use mathlib.Core.Path.{_≡_}
 use borrow.Author.Tests.{eq-eqb, ne-eqb}
 use lib.ListN.{length}
-use Rattle.words.proofs.Listing.{Written, written-none, written-more, written-done}
+use Rattle.words.proofs.FloatLoops.{Written, written-none, written-more, written-done}
 use Rattle.words.proofs.floats.encode.Statement.{statement}
 use Rattle.words.proofs.floats.encode.Tie as tie
 

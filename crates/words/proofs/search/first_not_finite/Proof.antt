@@ -14,7 +14,7 @@ use Rattle.refusal.specs.declared.search.Search.the-variants.{Nowhere}
 use Rattle.refusal.specs.Search.{firstPlace, notFinite, firstNotFinite}
 use Rattle.refusal.proofs.Searching.{none-nowhere}
 use Rattle.words.specs.Floats.{floatsOf}
-use Rattle.words.proofs.Listing.{floatsOf-length}
+use Rattle.words.proofs.FloatLoops.{floatsOf-length}
 use Rattle.words.proofs.search.first_not_finite.Statement.{statement}
 use Rattle.words.proofs.search.first_not_finite.Tie as tie
 

@@ -1,8 +1,8 @@
 -- `words::search::is_finite` meets its contract. Assumes nothing.
 use native.Mathlib.Omega.{arith}
 use borrow.Author.Tests.{ltb-true, ltb-false}
-use Rattle.words.proofs.Finite.{finite-by}
-use Rattle.words.proofs.Listing.{floatsOf-at}
+use Rattle.words.proofs.FinitePatterns.{finite-by}
+use Rattle.words.proofs.FloatLoops.{floatsOf-at}
 use Rattle.words.proofs.search.is_finite.Statement.{statement}
 use Rattle.words.proofs.search.is_finite.Tie as tie
 

@@ -8,11 +8,11 @@ use Rattle.refusal.specs.declared.refusal.Checked.{Checked}
 use Rattle.refusal.specs.declared.refusal.Checked.the-variants.{Passed, Refused}
 use Rattle.refusal.specs.Refusal.{_next_, ifPassed}
 use Rattle.refusal.specs.Checks.{orderChecks}
-use Rattle.refusal.proofs.Checking.{next-passes}
-use Rattle.refusal.proofs.Passing.{order-passes, length-passes}
+use Rattle.refusal.proofs.ChecksInTurn.{next-passes}
+use Rattle.refusal.proofs.PassedChecks.{order-passes, length-passes}
 use Rattle.eigenvalues.specs.Readers.{realLengths, complexLengths, realRead, complexRead}
 use Rattle.eigenvalues.specs.Readers.{listed as listedFloats}
-use Rattle.eigenvalues.proofs.Finite.{real-finite, complex-finite}
+use Rattle.eigenvalues.proofs.KnownFinite.{real-finite, complex-finite}
 use Rattle.plain.specs.Plain.{plainLengths, plainBegun, plainFiniteOf}
 use Rattle.words.specs.Floats.{floatsOf, bytesOf, zeros}
 use Rattle.words.proofs.Between.{zeros-length, floats-length}
@@ -21,7 +21,7 @@ use Rattle.door.specs.declared.lists.ListEntry.the-variants.{Real, Compl
 use Rattle.door.specs.Answer.{checkedNumber}
 use Rattle.door.specs.Inner.{secondSize, evaluated, evaluatedBy, secondWritten}
 use Rattle.door.specs.Lists.{secondLength, listLengths, listChecks, complexListed, realBytes, complexBytes, plainFrom, plainBytes, listsBytes}
-use Rattle.door.proofs.ListsPassing.{list-fit, list-entries}
+use Rattle.door.proofs.ListLengths.{list-fit, list-entries}
 
 -- what is written where all checks have passed: of a list that was read then
 written : (c : Checked) (x y : List Float) (z : List ℕ) → ifPassed c (bytesOf (ifPassed c x y)) z ≡ ifPassed c (bytesOf x) z
@@ -47,7 +47,7 @@ plain-sized n some order square list second =
 -- ---- what was evaluated is what is written
 
 -- the floats of the bytes in the matrix's place
-pub read : (e : ListEntry) (n : ℕ) (m re im re' im' : List ℕ) (x x' y y' : List Float) (c : Checked) (answer : ℕ)
+pub list-read : (e : ListEntry) (n : ℕ) (m re im re' im' : List ℕ) (x x' y y' : List Float) (c : Checked) (answer : ℕ)
     → listChecks e n m (length re) (length im) ≡ Passed → length x ≡ n → y ≡ zeros (secondSize e n)
     → evaluated c x' y' ≡ evaluatedBy e n (floatsOf m) x y → re' ≡ ifPassed c (bytesOf x') re → im' ≡ secondWritten e c y' im → answer ≡ checkedNumber c
     → complexListed answer re' im' ≡ listsBytes e n m re im

@@ -9,8 +9,8 @@ use Rattle.refusal.specs.declared.refusal.Checked.{Checked}
 use Rattle.refusal.specs.declared.refusal.Checked.the-variants.{Passed}
 use Rattle.refusal.specs.Refusal.{_next_}
 use Rattle.refusal.specs.Checks.{orderChecks, lengthCheck}
-use Rattle.refusal.proofs.Checking.{next-passed, next-passes}
-use Rattle.refusal.proofs.Passing.{order-passed, length-passed, given-passed}
+use Rattle.refusal.proofs.ChecksInTurn.{next-passed, next-passes}
+use Rattle.refusal.proofs.PassedChecks.{order-passed, length-passed, given-passed}
 use Rattle.eigenvalues.specs.Readers.{readable, finiteReadable}
 
 -- ---- what both readers check

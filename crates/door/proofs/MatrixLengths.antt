@@ -6,9 +6,9 @@ use mathlib.Core.List.{List}
 use lib.ListN.{length}
 use Rattle.loops.specs.Place.{square-64}
 use Rattle.refusal.specs.declared.refusal.Checked.the-variants.{Passed}
-use Rattle.refusal.proofs.Passing.{matrices-passed}
+use Rattle.refusal.proofs.PassedChecks.{matrices-passed}
 use Rattle.schur.specs.Run.{runFits}
-use Rattle.decomposition.proofs.Passing.{all-right, sizes-fit}
+use Rattle.decomposition.proofs.CheckedArguments.{all-right, sizes-fit}
 use Rattle.door.specs.declared.matrices.Request.{Request}
 use Rattle.door.specs.Matrices.{matrixChecks}
 

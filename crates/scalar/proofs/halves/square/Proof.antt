@@ -1,13 +1,13 @@
--- `scalar::words::square` meets its contract: the halves' products are within a word (`halves`), and put together they are the square
+-- `scalar::halves::square` meets its contract: the halves' products are within a word (`halves`), and put together they are the square
 -- (`squared`). Assumes nothing.
 use Prim.Native.Nat.{ℕ, _+_, _*_, _/_, _%_, _^_}
 use mathlib.Core.Path.{ap, _∙_}
 use native.Mathlib.Nat.{div-add-mod'}
 use native.Mathlib.Omega.{arith}
 use borrow.Author.Needs.{needs}
-use Rattle.scalar.proofs.words.Laws.{Halves, halves, squared}
-use Rattle.scalar.proofs.words.square.Statement.{statement}
-use Rattle.scalar.proofs.words.square.Tie as tie
+use Rattle.scalar.proofs.halves.Laws.{Halves, halves, squared}
+use Rattle.scalar.proofs.halves.square.Statement.{statement}
+use Rattle.scalar.proofs.halves.square.Tie as tie
 
 parts : (c : tie.Start) → Halves (c .args .r / 2 ^ 27) (c .args .r % 2 ^ 27)
 parts c = halves _ (c .pre)

@@ -1,11 +1,11 @@
--- `scalar::words::gap` meets its contract, with a borrow and without. Assumes nothing.
+-- `scalar::halves::gap` meets its contract, with a borrow and without. Assumes nothing.
 use mathlib.Core.Path.{_∙_}
 use mathlib.Core.Logic.{⊎-elim}
 use native.Mathlib.Omega.{arith}
 use borrow.Author.Needs.{needs}
-use Rattle.scalar.proofs.words.Laws.{gap-carry, gap-plain}
-use Rattle.scalar.proofs.words.gap.Statement.{statement}
-use Rattle.scalar.proofs.words.gap.Tie as tie
+use Rattle.scalar.proofs.halves.Laws.{gap-carry, gap-plain}
+use Rattle.scalar.proofs.halves.gap.Statement.{statement}
+use Rattle.scalar.proofs.halves.gap.Tie as tie
 
 returns : tie.Need-returns
 returns c l =

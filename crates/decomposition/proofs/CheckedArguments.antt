@@ -15,8 +15,8 @@ use Rattle.refusal.specs.declared.refusal.Checked.the-variants.{Passed}
 use Rattle.refusal.specs.declared.search.Search.the-variants.{Nowhere}
 use Rattle.refusal.specs.Refusal.{refuse, _next_}
 use Rattle.refusal.specs.Search.{firstNotFinite}
-use Rattle.refusal.proofs.Checking.{next-passed, refuse-passed}
-use Rattle.refusal.proofs.Passing.{order-passed, order-passes, length-passed, matrices-passed, entries-passed, entries-passes}
+use Rattle.refusal.proofs.ChecksInTurn.{next-passed, refuse-passed}
+use Rattle.refusal.proofs.PassedChecks.{order-passed, order-passes, length-passed, matrices-passed, entries-passed, entries-passes}
 use Rattle.pass.specs.declared.setting.Setting.{Setting}
 use Rattle.pass.specs.Pair.{Pair, pair}
 use Rattle.schur.specs.Run.{Left, runFits, ranOf}

@@ -1,8 +1,8 @@
--- `scalar::words::plus` meets its contract, with a carry and without. Assumes nothing.
+-- `scalar::halves::plus` meets its contract, with a carry and without. Assumes nothing.
 use native.Mathlib.Omega.{arith}
 use borrow.Author.Needs.{needs}
-use Rattle.scalar.proofs.words.plus.Statement.{statement}
-use Rattle.scalar.proofs.words.plus.Tie as tie
+use Rattle.scalar.proofs.halves.plus.Statement.{statement}
+use Rattle.scalar.proofs.halves.plus.Tie as tie
 
 returns : tie.Need-returns
 returns c = (omega arith, omega arith)

@@ -10,7 +10,7 @@ use Rattle.refusal.specs.declared.refusal.Refusal.{Refusal}
 use Rattle.refusal.specs.declared.refusal.Refusal.the-variants.{InputCutShort}
 use Rattle.refusal.specs.declared.refusal.Checked.the-variants.{Passed, Refused}
 use Rattle.refusal.specs.Refusal.{toldOf, refuse, _next_}
-use Rattle.refusal.proofs.Checking.{next-passed, refuse-passed}
+use Rattle.refusal.proofs.ChecksInTurn.{next-passed, refuse-passed}
 use Rattle.words.specs.Floats.{floatsOf}
 use Rattle.record.specs.declared.header.Header.{Header}
 use Rattle.record.specs.Text.{refusedLine}

@@ -15,7 +15,7 @@ use Rattle.refusal.specs.declared.search.Search.the-variants.{Nowhere}
 use Rattle.refusal.specs.Refusal.{refuse, refuseAt, _next_}
 use Rattle.refusal.specs.Search.{firstNotFinite}
 use Rattle.refusal.specs.Checks.{orderChecks, lengthCheck, onlyIf, lentLengths, matrixLengths, entryChecks, givenChecks}
-use Rattle.refusal.proofs.Checking.{next-passed, next-passes, refuse-passed, refuseAt-passed, Only, only-next, only-refuse, only-at}
+use Rattle.refusal.proofs.ChecksInTurn.{next-passed, next-passes, refuse-passed, refuseAt-passed, Only, only-next, only-refuse, only-at}
 
 -- ---- the order
 

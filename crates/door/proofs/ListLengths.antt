@@ -8,8 +8,8 @@ use Rattle.refusal.specs.declared.refusal.Refusal.{Refusal}
 use Rattle.refusal.specs.declared.refusal.Checked.the-variants.{Passed, Refused}
 use Rattle.refusal.specs.Refusal.{ifPassed}
 use Rattle.refusal.specs.Checks.{entryChecks}
-use Rattle.refusal.proofs.Checking.{next-passed, next-refused}
-use Rattle.refusal.proofs.Passing.{length-passed, entries-passes, given-passed}
+use Rattle.refusal.proofs.ChecksInTurn.{next-passed, next-refused}
+use Rattle.refusal.proofs.PassedChecks.{length-passed, entries-passes, given-passed}
 use Rattle.eigenvalues.specs.Readers.{readable, realChecks, complexChecks}
 use Rattle.words.specs.Floats.{floatsOf}
 use Rattle.door.specs.declared.lists.ListEntry.{ListEntry}
