@@ -1,5 +1,5 @@
--- A call of an entry by its number: what is told, and what the three lent slices hold afterwards. Each entry is the library's definition of it; a slice that it
--- does not have stays as it was.
+-- A call of an entry by its number: what is told, and what the three lent slices hold afterwards. Each entry is the
+-- library's definition of it; a slice that it does not have stays as it was.
 use Prim.Native.Nat.{ℕ}
 use mathlib.Core.Bool.{Bool, true, false, cond}
 use mathlib.Core.List.{List}

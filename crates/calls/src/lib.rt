@@ -1,7 +1,7 @@
-// A call of the library by the number of its entry, for the programs that make calls out of a list: 1 decomposition with Q,
-// 2 decomposition without Q, 3 real reader, 4 complex reader, and any other the plain entry. An entry writes to up to three
-// lent slices: T, Q and workspace; eigenvalues; real parts and imaginary parts; eigenvalues and workspace. The others are
-// left alone.
+// A call of the library by the number of its entry, for the programs that make calls out of a list: 1 decomposition
+// with Q, 2 decomposition without Q, 3 real reader, 4 complex reader, and any other the plain entry. An entry writes to
+// up to three lent slices: T, Q and workspace; eigenvalues; real parts and imaginary parts; eigenvalues and workspace.
+// The others are left alone.
 ghost use mathlib.Core.Path.{_≡_};
 ghost use Rattle.calls.specs.Call.{decomposedTold, checkedTold, came, askedFor, callOf};
 use decomposition::Decomposed;

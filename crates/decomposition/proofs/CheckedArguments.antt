@@ -31,7 +31,8 @@ pub record Right (lengths : Checked) (asked : Setting) (budget : ℕ) (m : List 
   pub bound : budgetFits budget ≡ true
   pub entries : firstNotFinite (asked .order) m ≡ Nowhere
 
-pub all-right : (lengths : Checked) (asked : Setting) (budget : ℕ) (m : List Float) → argumentChecks lengths asked budget m ≡ Passed → Right lengths asked budget m
+pub all-right : (lengths : Checked) (asked : Setting) (budget : ℕ) (m : List Float) → argumentChecks lengths asked budget m ≡ Passed
+    → Right lengths asked budget m
 unfolding argumentChecks
 all-right lengths asked budget m h =
     let a = next-passed _ _ h in
@@ -49,7 +50,8 @@ all-right lengths asked budget m h =
     }
 
 -- and the other way
-pub right-passed : {lengths : Checked} {asked : Setting} {budget : ℕ} {m : List Float} → Right lengths asked budget m → argumentChecks lengths asked budget m ≡ Passed
+pub right-passed : {lengths : Checked} {asked : Setting} {budget : ℕ} {m : List Float} → Right lengths asked budget m
+    → argumentChecks lengths asked budget m ≡ Passed
 unfolding argumentChecks refuse _next_
 right-passed {lengths} {asked} {budget} {m} r =
     rw (order-passes (r .some) (r .order), r .lent, r .near, r .bound) (entries-passes (asked .order) m (r .entries))

@@ -83,4 +83,5 @@ module _ (lengths : Checked) (asked : Setting) (budget : ℕ) (m : List Float) (
   unfolding judged decided verdict settled
   reached-refused h e =
       let f = count-reached asked budget (pair m (p .q)) w (budgeted h) e in
-      ap (λ o. o .answer) (run-judged lengths asked budget m p w h) ∙ ap (λ a. settled asked (passesOf a) (verdict asked a (ran .pair)) (ran .pair) .answer) (f .1)
+      ap (λ o. o .answer) (run-judged lengths asked budget m p w h)
+      ∙ ap (λ a. settled asked (passesOf a) (verdict asked a (ran .pair)) (ran .pair) .answer) (f .1)

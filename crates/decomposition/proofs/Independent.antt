@@ -84,7 +84,8 @@ module _ (asked : Setting) (budget : ℕ) (m t q q' w : List Float) where
       let same = ranOf-same true false asked budget m q q' w in
       let here = ranOf (with asked) budget (pair m q) w in
       let there = ranOf (without asked) budget (pair m q') w in
-      let told = ap (λ a. verdict (without asked) a (there .pair)) (sym (same .answer)) ∙ verdict-without asked (here .answer) (here .pair) (there .pair) (same .t) (x .0) in
+      let told = ap (λ a. verdict (without asked) a (there .pair)) (sym (same .answer))
+      ∙ verdict-without asked (here .answer) (here .pair) (there .pair) (same .t) (x .0) in
       let other =
       accepted-run _ (without asked) budget m (pair t q') w (checks-without (accepted-passed _ (with asked) budget m (pair t q) w e)) told
       ∙ ap (λ a. Accepted (passesOf a)) (sym (same .answer)) ∙ sym (ap Accepted (x .1)) in

@@ -14,7 +14,8 @@ use Rattle.schur.specs.Run.{Left, left, runFits, ranOf, runOf, workAfter}
 use Rattle.decomposition.specs.Decomposition.{outcome, Settlement, decided, judged}
 
 -- the run on arguments that fit
-pub ran-there : (asked : Setting) (budget : ℕ) (p : Pair) (w : List Float) → runFits (asked .order) (length (p .t)) (length w) ≡ true → runOf asked budget p w ≡ ranOf asked budget p w
+pub ran-there : (asked : Setting) (budget : ℕ) (p : Pair) (w : List Float) → runFits (asked .order) (length (p .t)) (length w) ≡ true
+    → runOf asked budget p w ≡ ranOf asked budget p w
 unfolding runOf
 ran-there asked budget p w h = rw h
 
@@ -23,7 +24,8 @@ unfolding workAfter
 work-there n t w h = rw h
 
 -- what a run has answered and left, and what is decided of it
-pub judged-by : (asked : Setting) (l : Left) (w w' : List Float) (ran : Ran) (p : Pair) (s : Settlement) → left ran p ≡ l → s ≡ decided asked ran p → w' ≡ filled zero w
+pub judged-by : (asked : Setting) (l : Left) (w w' : List Float) (ran : Ran) (p : Pair) (s : Settlement) → left ran p ≡ l → s ≡ decided asked ran p
+    → w' ≡ filled zero w
     → outcome (s .answer) (s .pair) w' ≡ judged asked l w
 unfolding judged
 judged-by asked l w w' ran p s run end work = rw (end, work, ← run)

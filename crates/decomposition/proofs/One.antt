@@ -27,7 +27,8 @@ module _ (κs : Lfts 4) where
   abbrev work : Exit → List Float
   work s = s .1 .1 .1 .1 .1 .0 .now
 
-  pub one-decomposition : (a : Dens κs kinds.ps) (r r' : Decomposed) (s s' : Exit) → reads.Post κs a r s → reads.Post κs a r' s' → (r ≡ r') × (t s ≡ t s') × (q s ≡ q s') × (work s ≡ work s')
+  pub one-decomposition : (a : Dens κs kinds.ps) (r r' : Decomposed) (s s' : Exit) → reads.Post κs a r s → reads.Post κs a r' s'
+      → (r ≡ r') × (t s ≡ t s') × (q s ≡ q s') × (work s ≡ work s')
   one-decomposition a r r' s s' h k =
       let e = one-answer _ _ _ (h .0) (k .0) in
       (ap (λ o. o .answer) e, ap (λ o. o .pair .t) e, ap (λ o. o .pair .q) e, ap (λ o. o .work) e)

@@ -31,7 +31,8 @@ verdict-passed asked (BudgetReached window) p h = absurd (refused-not-passed _ h
 verdict-passed asked Unfit p h = absurd (refused-not-passed _ h)
 
 -- in T nothing is found then
-found-none : (asked : Setting) (p : Pair) → resultChecks asked p ≡ Passed → (firstNotFinite (asked .order) (p .t) ≡ Nowhere) × (firstSpoiling (asked .order) (p .t) ≡ Nowhere)
+found-none : (asked : Setting) (p : Pair) → resultChecks asked p ≡ Passed
+    → (firstNotFinite (asked .order) (p .t) ≡ Nowhere) × (firstSpoiling (asked .order) (p .t) ≡ Nowhere)
 unfolding resultChecks
 found-none asked p h =
     let a = next-passed _ _ h in
@@ -53,7 +54,8 @@ module _ (lengths : Checked) (asked : Setting) (budget : ℕ) (m : List Float) (
   none : {c : ℕ} → answer ≡ Accepted c → (firstNotFinite n t ≡ Nowhere) × (firstSpoiling n t ≡ Nowhere)
   none e =
       let a = as-run lengths asked budget m p w e in
-      subst (λ (x : Pair). (firstNotFinite n (x .t) ≡ Nowhere) × (firstSpoiling n (x .t) ≡ Nowhere)) (sym (a .2)) (found-none asked _ (verdict-passed asked _ _ (a .0)))
+      subst (λ (x : Pair). (firstNotFinite n (x .t) ≡ Nowhere) × (firstSpoiling n (x .t) ≡ Nowhere)) (sym (a .2))
+      (found-none asked _ (verdict-passed asked _ _ (a .0)))
 
   order : {c : ℕ} → answer ≡ Accepted c → n ≤ 64
   order e = all-right _ _ _ _ (accepted-passed lengths asked budget m p w e) .order

@@ -21,7 +21,8 @@ use Rattle.schur.specs.Run.{Left, ranOf}
 use Rattle.schur.proofs.Lengths.{ran-length}
 use Rattle.decomposition.specs.declared.Decomposed.the-variants.{Accepted, Declined}
 use Rattle.decomposition.specs.Checks.{allLengths, argumentChecks}
-use Rattle.decomposition.specs.Decomposition.{Outcome, outcome, verdict, passesOf, nanFilled, settled, decided, judged, begun, entryOf, decompositionOf, placedOf}
+use Rattle.decomposition.specs.Decomposition.{Outcome, outcome, verdict, passesOf, nanFilled, settled, decided, judged, begun, entryOf, decompositionOf}
+use Rattle.decomposition.specs.Decomposition.{placedOf}
 use Rattle.decomposition.proofs.CheckedArguments.{Sizes, all-right, all-lent, passed-judged, judged-work}
 
 -- ---- as a run was judged, so it is answered
@@ -94,7 +95,8 @@ module _ (lengths : Checked) (asked : Setting) (budget : ℕ) (m : List Float) (
       go (Refused r) h = let other = ap (λ o. o .answer) (untouched h) in cc
 
   -- accepted: T and Q are the run's, and all else has passed too; and the other way round
-  pub as-run : {c : ℕ} → whole .answer ≡ Accepted c → (verdict asked (ran .answer) (ran .pair) ≡ Passed) × (c ≡ passesOf (ran .answer)) × (whole .pair ≡ ran .pair)
+  pub as-run : {c : ℕ} → whole .answer ≡ Accepted c → (verdict asked (ran .answer) (ran .pair) ≡ Passed) × (c ≡ passesOf (ran .answer))
+      × (whole .pair ≡ ran .pair)
   unfolding judged decided
   as-run e = let h = accepted-passed e in rw (run-judged h) (settled-accepted _ _ _ _ (rw (run-judged h) at e))
 
@@ -103,7 +105,8 @@ module _ (lengths : Checked) (asked : Setting) (budget : ℕ) (m : List Float) (
   accepted-run h k = ap (λ o. o .answer) (run-judged h) ∙ ap (λ c. settled asked (passesOf (ran .answer)) c (ran .pair) .answer) k
 
   -- refused after the run: T and Q are spoiled
-  pub as-refused : {r : Refusal} → checks ≡ Passed → whole .answer ≡ Declined r → (verdict asked (ran .answer) (ran .pair) ≡ Refused r) × (whole .pair ≡ nanFilled asked (ran .pair))
+  pub as-refused : {r : Refusal} → checks ≡ Passed → whole .answer ≡ Declined r
+      → (verdict asked (ran .answer) (ran .pair) ≡ Refused r) × (whole .pair ≡ nanFilled asked (ran .pair))
   unfolding judged decided
   as-refused h e = rw (run-judged h) (settled-declined _ _ _ _ (rw (run-judged h) at e))
 

@@ -5,7 +5,8 @@ use mathlib.Core.List.{List}
 use lib.Dec.{leb}
 use lib.Ieee.{Float, le, lt}
 use Rattle.loops.specs.Constants.{zero, one}
-use Rattle.refusal.specs.declared.refusal.Refusal.the-variants.{WrongLength, ToleranceOutside, BudgetOutside, ResultNotFinite, ShapeSpoiled}
+use Rattle.refusal.specs.declared.refusal.Refusal.the-variants.{WrongLength, ToleranceOutside, BudgetOutside}
+use Rattle.refusal.specs.declared.refusal.Refusal.the-variants.{ResultNotFinite, ShapeSpoiled}
 use Rattle.refusal.specs.declared.refusal.Checked.{Checked}
 use Rattle.refusal.specs.Refusal.{refuse, refuseAt, _next_}
 use Rattle.refusal.specs.Search.{firstNotFinite, firstSpoiling}

@@ -76,10 +76,12 @@ begun (Refused r) ran p w = outcome (Declined r) p w
 -- workspace.
 unfoldable pub entryOf : (lengths : Checked) → Setting → (budget : ℕ) → (m : List Float) → Pair → (w : List Float)
     → Outcome
-entryOf lengths asked budget m p w = begun (argumentChecks lengths asked budget m) (judged asked (ranOf asked budget (pair m (p .q)) w) w) p w
+entryOf lengths asked budget m p w =
+    begun (argumentChecks lengths asked budget m) (judged asked (ranOf asked budget (pair m (p .q)) w) w) p w
 
 abbrev pub decompositionOf : Setting → (budget : ℕ) → (m : List Float) → Pair → (w : List Float) → Outcome
-decompositionOf asked budget m p w = entryOf (allLengths asked (length m) (length (p .t)) (length (p .q)) (length w)) asked budget m p w
+decompositionOf asked budget m p w =
+    entryOf (allLengths asked (length m) (length (p .t)) (length (p .q)) (length w)) asked budget m p w
 
 -- in place: T itself is the matrix
 abbrev pub placedOf : Setting → (budget : ℕ) → Pair → (w : List Float) → Outcome

@@ -5,13 +5,16 @@ ghost use mathlib.Core.Bool.{true, not};
 ghost use lib.ListN.{length};
 ghost use Prim.Native.Nat.{_≤_};
 ghost use Rattle.pass.specs.Pair.{pair};
-ghost use Rattle.refusal.specs.declared.refusal.Refusal.the-variants.{ToleranceOutside, BudgetOutside, ResultNotFinite, ShapeSpoiled};
+ghost use Rattle.refusal.specs.declared.refusal.Refusal.the-variants.{ToleranceOutside, BudgetOutside, ResultNotFinite};
+ghost use Rattle.refusal.specs.declared.refusal.Refusal.the-variants.{ShapeSpoiled};
 ghost use Rattle.refusal.specs.Refusal.{refuse, refuseAt, _next_};
 ghost use Rattle.refusal.specs.Search.{firstNotFinite, firstSpoiling};
 ghost use Rattle.refusal.specs.Checks.{onlyIf, entryChecks};
 ghost use Rattle.schur.specs.Run.{ranOf, runFits};
 ghost use Rattle.decomposition.specs.Checks.{toleranceFits, budgetFits, allLengths, argumentChecks, resultChecks};
-ghost use Rattle.decomposition.specs.Decomposition.{outcome, verdict, passesOf, nanFilled, settlement, settled, decided, judged, decompositionOf, placedOf, belowBudget, shaped};
+ghost use Rattle.decomposition.specs.Decomposition.{outcome, verdict, passesOf, nanFilled, settlement, settled};
+ghost use Rattle.decomposition.specs.Decomposition.{decided, judged, decompositionOf, placedOf, belowBudget};
+ghost use Rattle.decomposition.specs.Decomposition.{shaped};
 use pass::Setting;
 use refusal::Checked;
 use refusal::Refusal;
@@ -56,7 +59,8 @@ fn check_all_lengths(asked: Setting, mn: usize, tn: usize, qn: usize, wn: usize)
 
 // Behind the lengths: the tolerance, the budget, the entries.
 fn check_values(m: &[f64], asked: Setting, budget: u64) -> Checked
-    ensures { λ r. ⌜ r ≡ (refuse (not (toleranceFits (asked .tolerance))) ToleranceOutside next refuse (not (budgetFits budget)) BudgetOutside
+    ensures { λ r. ⌜ r ≡ (refuse (not (toleranceFits (asked .tolerance))) ToleranceOutside
+        next refuse (not (budgetFits budget)) BudgetOutside
         next entryChecks (asked .order) (now (m .entry))) ⌝ }
 {
     if !tolerance_fits(asked.tolerance) {
@@ -93,7 +97,8 @@ fn check_arguments(
 
 // Q holds a non-finite entry, if it is wanted; else the shape of T.
 fn check_q_and_shape(t: &[f64], q: &[f64], asked: Setting) -> Checked
-    ensures { λ r. ⌜ r ≡ (onlyIf (asked .wanted) (refuseAt ResultNotFinite (firstNotFinite (asked .order) (now (q .entry))))
+    ensures { λ r. ⌜ r ≡ (onlyIf (asked .wanted)
+        (refuseAt ResultNotFinite (firstNotFinite (asked .order) (now (q .entry))))
         next refuseAt ShapeSpoiled (firstSpoiling (asked .order) (now (t .entry)))) ⌝ }
 {
     if !asked.wanted {
@@ -181,7 +186,8 @@ fn decompose(
 ) -> Decomposed
     requires { ⌜ runFits (asked .order) (length (now t)) (length (now work)) ≡ true ⌝ }
     ensures { λ r. ⌜ outcome r (pair (now (t .exit)) (now (q .exit))) (now (work .exit))
-        ≡ judged asked (ranOf asked budget (pair (now (t .entry)) (now (q .entry))) (now (work .entry))) (now (work .entry)) ⌝ }
+        ≡ judged asked (ranOf asked budget (pair (now (t .entry)) (now (q .entry))) (now (work .entry)))
+        (now (work .entry)) ⌝ }
 {
     let ran = schur::do_decompose(t, q, asked, budget, work);
     decide(ran, t, q, asked)

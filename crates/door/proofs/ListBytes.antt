@@ -51,19 +51,21 @@ pub list-read : (e : ListEntry) (n : ℕ) (m re im re' im' : List ℕ) (x x' y y
     → listChecks e n m (length re) (length im) ≡ Passed → length x ≡ n → y ≡ zeros (secondSize e n)
     → evaluated c x' y' ≡ evaluatedBy e n (floatsOf m) x y → re' ≡ ifPassed c (bytesOf x') re → im' ≡ secondWritten e c y' im → answer ≡ checkedNumber c
     → complexListed answer re' im' ≡ listsBytes e n m re im
-unfolding listsBytes realBytes complexBytes plainBytes plainFrom evaluatedBy realRead complexRead plainFiniteOf plainBegun listedFloats listLengths secondLength secondSize secondWritten
+unfolding listsBytes realBytes complexBytes plainBytes plainFrom evaluatedBy realRead complexRead plainFiniteOf plainBegun listedFloats listLengths secondLength
+    secondSize secondWritten
     checkedNumber ifPassed listChecks
-read Real n m re im re' im' x x' y y' c answer passed list zero run left-re left-im told =
+list-read Real n m re im re' im' x x' y y' c answer passed list zero run left-re left-im told =
     let f = list-fit Real n m (length re) (length im) passed in
     let size = real-sized n (floats-length m (n * n) (f .matrix)) list in
     let whole = run ∙ ap (λ r. evaluated (r .answer) (r .values) y) (real-finite n (floatsOf m) x (list-entries Real n m (length re) (length im) passed)) in
     rw (told, left-re, left-im, ap (λ r. r .x) whole, ap (λ r. r .answer) whole, size, f .lent, written)
-read Complex n m re im re' im' x x' y y' c answer passed list zero run left-re left-im told =
+list-read Complex n m re im re' im' x x' y y' c answer passed list zero run left-re left-im told =
     let f = list-fit Complex n m (length re) (length im) passed in
     let size = complex-sized n (floats-length m (n * n) (f .matrix)) list (ap length zero ∙ zeros-length n) in
-    let whole = run ∙ ap (λ r. evaluated (r .answer) (r .re) (r .im)) (complex-finite n (floatsOf m) x y (list-entries Complex n m (length re) (length im) passed)) in
+    let whole =
+    run ∙ ap (λ r. evaluated (r .answer) (r .re) (r .im)) (complex-finite n (floatsOf m) x y (list-entries Complex n m (length re) (length im) passed)) in
     rw (told, left-re, left-im, ap (λ r. r .x) whole, ap (λ r. r .y) whole, ap (λ r. r .answer) whole, size, f .lent) (simp written)
-read Plain n m re im re' im' x x' y y' c answer passed list zero run left-re left-im told =
+list-read Plain n m re im re' im' x x' y y' c answer passed list zero run left-re left-im told =
     let f = list-fit Plain n m (length re) (length im) passed in
     let size = plain-sized n (f .some) (f .order) (floats-length m (n * n) (f .matrix)) list (ap length zero ∙ zeros-length (2 * n)) in
     rw (told, left-re, left-im, ap (λ r. r .x) run, ap (λ r. r .answer) run, size, passed, zero, written)

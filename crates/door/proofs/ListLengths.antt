@@ -56,7 +56,8 @@ complex-second n jn h = length-passed _ jn _ h
 
 -- ---- refused: all that is lent is as it was
 
-pub kept : {r : Refusal} (e : ListEntry) (n : ℕ) (m re im : List ℕ) (answer : ℕ) → listChecks e n m (length re) (length im) ≡ Refused r → answer ≡ refusalNumber r
+pub kept : {r : Refusal} (e : ListEntry) (n : ℕ) (m re im : List ℕ) (answer : ℕ) → listChecks e n m (length re) (length im) ≡ Refused r
+    → answer ≡ refusalNumber r
     → complexListed answer re im ≡ listsBytes e n m re im
 unfolding listsBytes listChecks listLengths secondLength realBytes realChecks complexBytes complexChecks readable plainBytes plainFrom ifPassed checkedNumber
 kept Real n m re im answer refused told = rw (told, next-refused _ _ (next-refused _ _ refused))

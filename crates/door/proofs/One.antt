@@ -22,15 +22,18 @@ pub one-decompose : (κs : Lfts 3) (a : Dens κs decompose.ps) (r r' : ℕ) (s s
 one-decompose κs a r r' s s' h k = let e = one-answer _ _ _ h k in (ap (λ x. x .answer) e, ap (λ x. x .t) e, ap (λ x. x .q) e)
 
 -- those of the eigenvalues
-pub one-real : (κs : Lfts 2) (a : Dens κs real.ps) (r r' : ℕ) (s s' : AtExit (endedOf 2 real.ps real.r) κs) → reads-real.Post κs a r s → reads-real.Post κs a r' s'
+pub one-real : (κs : Lfts 2) (a : Dens κs real.ps) (r r' : ℕ) (s s' : AtExit (endedOf 2 real.ps real.r) κs) → reads-real.Post κs a r s
+    → reads-real.Post κs a r' s'
     → (r ≡ r') × (s .1 .1 .0 .now ≡ s' .1 .1 .0 .now)
 one-real κs a r r' s s' h k = let e = one-answer _ _ _ h k in (ap (λ x. x .answer) e, ap (λ x. x .values) e)
 
 -- those of the real and of the imaginary parts
-pub one-complex : (κs : Lfts 3) (a : Dens κs complex.ps) (r r' : ℕ) (s s' : AtExit (endedOf 3 complex.ps complex.r) κs) → reads-complex.Post κs a r s → reads-complex.Post κs a r' s'
+pub one-complex : (κs : Lfts 3) (a : Dens κs complex.ps) (r r' : ℕ) (s s' : AtExit (endedOf 3 complex.ps complex.r) κs) → reads-complex.Post κs a r s
+    → reads-complex.Post κs a r' s'
     → (r ≡ r') × (s .1 .1 .0 .now ≡ s' .1 .1 .0 .now) × (s .1 .1 .1 .0 .now ≡ s' .1 .1 .1 .0 .now)
 one-complex κs a r r' s s' h k = let e = one-answer _ _ _ h k in (ap (λ x. x .answer) e, ap (λ x. x .re) e, ap (λ x. x .im) e)
 
-pub one-plain : (κs : Lfts 2) (a : Dens κs plain.ps) (r r' : ℕ) (s s' : AtExit (endedOf 2 plain.ps plain.r) κs) → reads-plain.Post κs a r s → reads-plain.Post κs a r' s'
+pub one-plain : (κs : Lfts 2) (a : Dens κs plain.ps) (r r' : ℕ) (s s' : AtExit (endedOf 2 plain.ps plain.r) κs) → reads-plain.Post κs a r s
+    → reads-plain.Post κs a r' s'
     → (r ≡ r') × (s .1 .1 .0 .now ≡ s' .1 .1 .0 .now)
 one-plain κs a r r' s s' h k = let e = one-answer _ _ _ h k in (ap (λ x. x .answer) e, ap (λ x. x .values) e)

@@ -27,7 +27,8 @@ secondLength Plain n jn = Passed
 
 -- T or the matrix, the list, the second list
 unfoldable pub listLengths : ListEntry → (n mn rn jn : ℕ) → Checked
-listLengths e n mn rn jn = lengthCheck WrongLength mn (8 * (n * n)) next lengthCheck WrongLength rn (8 * n) next secondLength e n jn
+listLengths e n mn rn jn =
+    lengthCheck WrongLength mn (8 * (n * n)) next lengthCheck WrongLength rn (8 * n) next secondLength e n jn
 
 -- 1, 2, 3 and 6, which each entry checks before anything else
 unfoldable pub listChecks : ListEntry → (n : ℕ) → (m : List ℕ) → (rn jn : ℕ) → Checked
@@ -70,7 +71,8 @@ plainFrom Passed r values = listed (checkedNumber (r .answer)) (ifPassed (r .ans
 plainFrom (Refused r) _ values = listed (refusalNumber r) values
 
 unfoldable pub plainBytes : (n : ℕ) → (m values : List ℕ) → Listed
-plainBytes n m values = plainFrom (listChecks Plain n m (length values) 0) (plainRead n (floatsOf m) (zeros (2 * n))) values
+plainBytes n m values =
+    plainFrom (listChecks Plain n m (length values) 0) (plainRead n (floatsOf m) (zeros (2 * n))) values
 
 -- ---- each by its name: the second list is the complex reader's alone, and any other leaves it as it was
 

@@ -40,11 +40,13 @@ matrices answer t q = record { answer = answer; t = t; q = q }
 -- 1 to 6; tn and qn are the lengths of what is lent for T and Q
 unfoldable pub matrixChecks : Request → (m : List ℕ) → (tn qn : ℕ) → Checked
 matrixChecks r m tn qn =
-    argumentChecks (matrixLengths (r .wanted) (8 * (r .order * r .order)) (length m) tn qn) (askedBy r) (r .budget) (floatsOf m)
+    argumentChecks (matrixLengths (r .wanted) (8 * (r .order * r .order)) (length m) tn qn) (askedBy r) (r .budget)
+    (floatsOf m)
 
 -- T, and Q if it is wanted
 unfoldable pub writtenMatrices : (wanted : Bool) → Settlement → (q : List ℕ) → Matrices
-writtenMatrices wanted s q = matrices (decomposedNumber (s .answer)) (bytesOf (s .pair .t)) (cond wanted (bytesOf (s .pair .q)) q)
+writtenMatrices wanted s q =
+    matrices (decomposedNumber (s .answer)) (bytesOf (s .pair .t)) (cond wanted (bytesOf (s .pair .q)) q)
 
 -- after the run, accepted or refused
 unfoldable pub ranBytes : Request → (m q : List ℕ) → Matrices

@@ -41,7 +41,8 @@ pub extern "C" fn manulsek_decompose(
     q: &mut [u8],
 ) -> u64
     ensures { λ r. ⌜ matrices r (now (t .exit)) (now (q .exit))
-        ≡ decomposeBytes (request n (not (eqb wanted 0)) tolerance budget) (now (m .entry)) (now (t .entry)) (now (q .entry)) ⌝ }
+        ≡ decomposeBytes (request n (not (eqb wanted 0)) tolerance budget) (now (m .entry)) (now (t .entry))
+        (now (q .entry)) ⌝ }
 {
     let request = Request {
         order: n,

@@ -119,7 +119,8 @@ fn on_floats(
     y: &mut [f64],
 ) -> u64
     requires { ⌜ (listChecks (c .entry) (c .order) (now m) (length (now re)) (length (now im)) ≡ Passed)
-        × (length (now a) ≡ c .order * c .order) × (length (now x) ≡ c .order) × (now y ≡ zeros (secondSize (c .entry) (c .order))) ⌝ }
+        × (length (now a) ≡ c .order * c .order) × (length (now x) ≡ c .order)
+        × (now y ≡ zeros (secondSize (c .entry) (c .order))) ⌝ }
     ensures { λ r. ⌜ complexListed r (now (re .exit)) (now (im .exit))
         ≡ listsBytes (c .entry) (c .order) (now (m .entry)) (now (re .entry)) (now (im .entry)) ⌝ }
 {

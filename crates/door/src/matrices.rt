@@ -50,7 +50,8 @@ fn tolerance_fits(tolerance: u64) -> bool
 
 // Behind the lengths: the tolerance, the budget, the entries.
 fn check_values(m: &[u8], r: Request) -> Checked
-    ensures { λ x. ⌜ x ≡ (refuse (not (toleranceFits (ofBits binary64 (r .tolerance)))) ToleranceOutside next refuse (not (budgetFits (r .budget))) BudgetOutside
+    ensures { λ x. ⌜ x ≡ (refuse (not (toleranceFits (ofBits binary64 (r .tolerance)))) ToleranceOutside
+        next refuse (not (budgetFits (r .budget))) BudgetOutside
         next entryChecks (r .order) (floatsOf (now (m .entry)))) ⌝ }
 {
     if !tolerance_fits(r.tolerance) {
@@ -99,7 +100,8 @@ fn on_floats(
     work: &mut [f64],
 ) -> u64
     requires { ⌜ (matrixChecks r (now m) (length (now t)) (length (now q)) ≡ Passed)
-        × (length (now a) ≡ r .order * r .order) × (now c ≡ zeros (r .order * r .order)) × (now work ≡ zeros (2 * r .order)) ⌝ }
+        × (length (now a) ≡ r .order * r .order) × (now c ≡ zeros (r .order * r .order))
+        × (now work ≡ zeros (2 * r .order)) ⌝ }
     ensures { λ x. ⌜ matrices x (now (t .exit)) (now (q .exit)) ≡ ranBytes r (now (m .entry)) (now (q .entry)) ⌝ }
 {
     let asked = asked_by(r);

@@ -76,12 +76,14 @@ pub before-next : (n : ℕ) (t : List Float) (k : ℕ) → answerAt n t k ≡ an
 unfolding answerBefore
 before-next n t k = let e : k + 1 - 1 ≡ k = omega arith in rw (ne-eqb (k + 1) 0 (λ z. omega arith), e)
 
-pub eigenvalue-by : (n : ℕ) (t : List Float) (k : ℕ) (before here : BlockAnswer) → before ≡ answerBefore n t k → here ≡ answerAt n t k → follows before here ≡ eigenvalueAt n t k
+pub eigenvalue-by : (n : ℕ) (t : List Float) (k : ℕ) (before here : BlockAnswer) → before ≡ answerBefore n t k → here ≡ answerAt n t k
+    → follows before here ≡ eigenvalueAt n t k
 unfolding eigenvalueAt
 eigenvalue-by n t k before here e h = rw (e, h)
 
 -- whether it is finite
-pub finite-by : (n : ℕ) (t : List Float) (k : ℕ) (before here : BlockAnswer) (e : Parts) (r : Bool) → before ≡ answerBefore n t k → here ≡ answerAt n t k → e ≡ follows before here
+pub finite-by : (n : ℕ) (t : List Float) (k : ℕ) (before here : BlockAnswer) (e : Parts) (r : Bool) → before ≡ answerBefore n t k → here ≡ answerAt n t k
+    → e ≡ follows before here
     → r ≡ (isFinite (e .re) && isFinite (e .im)) → not r ≡ notFiniteAt n t k
 unfolding notFiniteAt
 finite-by n t k before here e r p q h f = ap not (f ∙ ap (λ e. isFinite (e .re) && isFinite (e .im)) (h ∙ eigenvalue-by n t k before here p q))

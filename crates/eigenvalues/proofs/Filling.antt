@@ -22,7 +22,8 @@ pub filled-more : {n : ℕ} {f : ℕ → Float} {k : ℕ} {t : List Float} {x : 
 filled-more {n} {f} {k} {t} {x} d l e = record {
   upto = omega arith;
   size = simp length-set (d .size);
-  told = below-more (λ i. set t k x ! i ≡ f i) k (λ i h. getD-set-other t k i x nan (omega arith) ∙ d .told i h) (getD-set-same t k x nan (omega (arith, d .size)) ∙ e);
+  told = below-more (λ i. set t k x ! i ≡ f i) k (λ i h. getD-set-other t k i x nan (omega arith) ∙ d .told i h)
+      (getD-set-same t k x nan (omega (arith, d .size)) ∙ e);
 }
 
 pub filled-done : {n : ℕ} {f : ℕ → Float} {k : ℕ} {t : List Float} → Filled n f k t → n ≤ k → t ≡ table n f

@@ -7,7 +7,8 @@ use Rattle.refusal.specs.declared.refusal.Checked.{Checked}
 use Rattle.refusal.specs.declared.refusal.Checked.the-variants.{Passed, Refused}
 use Rattle.refusal.specs.Refusal.{_next_}
 use Rattle.refusal.specs.Checks.{entryChecks, givenChecks}
-use Rattle.eigenvalues.specs.Readers.{readable, finiteReadable, pairCheck, diagonalBy, realChecks, realRead, realFiniteOf, blockChecks, eigenvaluesBy, complexChecks, complexRead, complexFiniteOf}
+use Rattle.eigenvalues.specs.Readers.{readable, finiteReadable, pairCheck, diagonalBy, realChecks, realRead, realFiniteOf, blockChecks, eigenvaluesBy}
+use Rattle.eigenvalues.specs.Readers.{complexChecks, complexRead, complexFiniteOf}
 
 -- the last of three checks passes, and another stands behind them
 next-without : (a b c d : Checked) → c ≡ Passed → (a next b next d) ≡ ((a next b next c) next d)

@@ -20,7 +20,8 @@ pub record Fit (n len : ℕ) (lists : Checked) : Type 0 where
   pub size : len ≡ n * n
   pub room : lists ≡ Passed
 
-pub readable-fit : (n : ℕ) (t : List Float) (lists : Checked) → readable (lengthCheck WrongLength (length t) (n * n) next lists) n t ≡ Passed → Fit n (length t) lists
+pub readable-fit : (n : ℕ) (t : List Float) (lists : Checked) → readable (lengthCheck WrongLength (length t) (n * n) next lists) n t ≡ Passed
+    → Fit n (length t) lists
 unfolding readable
 readable-fit n t lists h =
     let g = given-passed _ n t (next-passed _ _ h .0) in
@@ -35,7 +36,8 @@ sizes-fit n len lists h =
     record { order = order-passed n (a .0) .order; size = length-passed _ len (n * n) (l .0); room = l .1 }
 
 -- and where the entries alone are not
-pub finite-fit : (n : ℕ) (t : List Float) (lists : Checked) → finiteReadable (lengthCheck WrongLength (length t) (n * n) next lists) n t ≡ Passed → Fit n (length t) lists
+pub finite-fit : (n : ℕ) (t : List Float) (lists : Checked) → finiteReadable (lengthCheck WrongLength (length t) (n * n) next lists) n t ≡ Passed
+    → Fit n (length t) lists
 unfolding finiteReadable
 finite-fit n t lists h =
     let a = next-passed _ _ h in

@@ -16,11 +16,13 @@ use Rattle.refusal.specs.declared.refusal.Checked.{Checked}
 use Rattle.refusal.specs.declared.refusal.Checked.the-variants.{Passed, Refused}
 use Rattle.refusal.specs.Refusal.{toldOf, refuse, refuseAt, ifPassed}
 use Rattle.refusal.specs.Checks.{lengthCheck}
-use Rattle.refusal.proofs.ChecksInTurn.{next-passed, next-passes, next-on, next-second, refuse-passed, refuse-refused, refuseAt-passed, Only, only-next, only-at}
+use Rattle.refusal.proofs.ChecksInTurn.{next-passed, next-passes, next-on, next-second, refuse-passed, refuse-refused, refuseAt-passed, Only, only-next}
+use Rattle.refusal.proofs.ChecksInTurn.{only-at}
 use Rattle.refusal.proofs.PassedChecks.{order-passes, length-passed, length-passes, given-passed, given-passes, only-length, only-given}
 use Rattle.refusal.proofs.Shape.{nowhere-finite, finite-nowhere, nowhere-shape, shape-nowhere}
 use Rattle.eigenvalues.specs.Blocks.{paired}
-use Rattle.eigenvalues.specs.Readers.{shapeCheck, readable, anyPaired, pairCheck, realChecks, diagonal, Read, read, leftBy, diagonalBy, realLengths, realRead, diagonalIfReal}
+use Rattle.eigenvalues.specs.Readers.{shapeCheck, readable, anyPaired, pairCheck, realChecks, diagonal, Read, read, leftBy, diagonalBy, realLengths}
+use Rattle.eigenvalues.specs.Readers.{realRead, diagonalIfReal}
 use Rattle.eigenvalues.specs.Real.{Given, AllZeroBelow, OneNotZero, RealAnswer}
 use Rattle.eigenvalues.proofs.BlockAnswers.{paired-last, paired-by, paired-inside}
 use Rattle.eigenvalues.proofs.ReaderChecks.{readable-fit}
@@ -56,7 +58,8 @@ module _ (n : ℕ) (t : List Float) where
 
 -- ---- what both readers check comes to 9 at most, so that 'complex', 10, is the real reader's own
 
-readable-numbers : (lengths : Checked) (n : ℕ) (t : List Float) → Only (λ r. toldOf r .number ≤ 9) lengths → Only (λ r. toldOf r .number ≤ 9) (readable lengths n t)
+readable-numbers : (lengths : Checked) (n : ℕ) (t : List Float) → Only (λ r. toldOf r .number ≤ 9) lengths
+    → Only (λ r. toldOf r .number ≤ 9) (readable lengths n t)
 unfolding readable shapeCheck toldOf
 readable-numbers lengths n t h = only-next _ _ _ (only-given _ _ _ _ (omega arith) (omega arith) h (λ _. omega arith)) (only-at _ _ _ (λ _. omega arith))
 
@@ -85,7 +88,12 @@ module _ (n : ℕ) (t values : List Float) where
   given-readable : Given n t values → readable lengths n t ≡ Passed
   unfolding readable shapeCheck refuseAt
   given-readable g =
-      next-passes (given-passes (record { some = g .some; order = g .order; lent = lengths-pass (g .square) (g .room); entries = finite-nowhere n t (g .finite) }))
+      next-passes (given-passes (record {
+        some = g .some;
+        order = g .order;
+        lent = lengths-pass (g .square) (g .room);
+        entries = finite-nowhere n t (g .finite);
+      }))
       (rw (shape-nowhere n t (g .shape)))
 
   readable-given : readable lengths n t ≡ Passed → Given n t values

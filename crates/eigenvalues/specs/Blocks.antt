@@ -1,4 +1,5 @@
--- The blocks on the diagonal of a quasi-triangular T, and the eigenvalues that each answers (document 01; docs/SUMS.md, 8.1 and 8.2).
+-- The blocks on the diagonal of a quasi-triangular T, and the eigenvalues that each answers (document 01; docs/SUMS.md,
+-- 8.1 and 8.2).
 use Prim.Native.Nat.{ℕ, _+_, _-_}
 use mathlib.Core.Bool.{Bool, cond, not, _&&_}
 use mathlib.Core.List.{List}
@@ -31,8 +32,8 @@ pairOf b = parts ((b .h11 ⊕ b .h00) ⊗ half) (rootOf (neg (discriminant b)))
 unfoldable pub answerAt : (n : ℕ) → (t : List Float) → (k : ℕ) → BlockAnswer
 answerAt n t k = cond (paired n t k) (Pair (pairOf (blockAt n k t))) (One (t ! place n k k))
 
--- The discriminant of a block that stands at k is above 0 or NaN. It was below 0, or NaN, before T was multiplied by the largest magnitude; after that
--- rounding may differ.
+-- The discriminant of a block that stands at k is above 0 or NaN. It was below 0, or NaN, before T was multiplied by
+-- the largest magnitude; after that rounding may differ.
 unfoldable pub notComplex : (n : ℕ) → (t : List Float) → (k : ℕ) → Bool
 notComplex n t k = paired n t k && not (le (discriminant (blockAt n k t)) zero)
 

@@ -1,5 +1,6 @@
--- Worked cases, by evaluation: patterns in, patterns out. The eigenvalues were computed by the plain model of the Rust, oracle/src/model.rs; the refusals
--- and the places that they tell are document 01's, which the Rust does not have. b, d, h, i and n are matrices with known outcomes of document 01.
+-- Worked cases, by evaluation: patterns in, patterns out. The eigenvalues were computed by the plain model of the Rust,
+-- oracle/src/model.rs; the refusals and the places that they tell are document 01's, which the Rust does not have. b,
+-- d, h, i and n are matrices with known outcomes of document 01.
 use mathlib.Core.Path.{_≡_, refl}
 use Prim.Native.Nat.{ℕ}
 use mathlib.Core.List.{List, [], _∷_, map}
@@ -16,16 +17,23 @@ use Rattle.pass.specs.Block.{blockAt, discriminant}
 use Rattle.refusal.specs.declared.refusal.Checked.{Checked}
 use Rattle.refusal.specs.declared.refusal.Checked.the-variants.{Passed, Refused}
 use Rattle.refusal.specs.Refusal.{toldOf, refuse, refuseAt, _next_, ifPassed}
-use Rattle.refusal.specs.Search.{firstRow, firstCol, firstPlace, firstOnDiagonal, notFinite, spoils, firstNotFinite, firstSpoiling}
+use Rattle.refusal.specs.Search.{firstRow, firstCol, firstPlace, firstOnDiagonal, notFinite, spoils, firstNotFinite}
+use Rattle.refusal.specs.Search.{firstSpoiling}
 use Rattle.refusal.specs.Checks.{orderChecks, lengthCheck, entryChecks, givenChecks}
-use Rattle.eigenvalues.specs.Blocks.{paired, pairOf, answerAt, notComplex, upper, lower, follows, answerBefore, eigenvalueAt}
-use Rattle.eigenvalues.specs.Readers.{Read, ComplexRead, shapeCheck, readable, finiteReadable, anyPaired, pairCheck, realChecks, diagonal, leftBy, realLengths, realRead, realFiniteOf, diagonalIfReal, notFiniteAt, blockChecks, complexChecks, complexLengths, complexRead, complexFiniteOf}
+use Rattle.eigenvalues.specs.Blocks.{paired, pairOf, answerAt, notComplex, upper, lower, follows, answerBefore}
+use Rattle.eigenvalues.specs.Blocks.{eigenvalueAt}
+use Rattle.eigenvalues.specs.Readers.{Read, ComplexRead, shapeCheck, readable, finiteReadable, anyPaired}
+use Rattle.eigenvalues.specs.Readers.{pairCheck, realChecks, diagonal, leftBy, realLengths, realRead}
+use Rattle.eigenvalues.specs.Readers.{realFiniteOf, diagonalIfReal, notFiniteAt, blockChecks, complexChecks}
+use Rattle.eigenvalues.specs.Readers.{complexLengths, complexRead, complexFiniteOf}
 
 -- every definition that a case computes with
 unfoldable pub openedReaders : Unit {0}
 unfolding opened until firstFrom table isFinite blockAt discriminant toldOf refuse refuseAt _next_ ifPassed
-    firstRow firstCol firstPlace firstOnDiagonal notFinite spoils firstNotFinite firstSpoiling orderChecks lengthCheck entryChecks givenChecks
-    paired pairOf answerAt notComplex upper lower follows answerBefore eigenvalueAt shapeCheck readable finiteReadable anyPaired pairCheck realChecks diagonal leftBy realLengths realRead
+    firstRow firstCol firstPlace firstOnDiagonal notFinite spoils firstNotFinite firstSpoiling orderChecks lengthCheck
+    entryChecks givenChecks
+    paired pairOf answerAt notComplex upper lower follows answerBefore eigenvalueAt shapeCheck readable finiteReadable
+    anyPaired pairCheck realChecks diagonal leftBy realLengths realRead
     realFiniteOf diagonalIfReal notFiniteAt blockChecks complexChecks complexLengths complexRead complexFiniteOf
     sub neg eq
 openedReaders = tt
@@ -59,13 +67,15 @@ real c = told (realRead (c .order) (numbers (c .matrix)) (lent (c .order)))
 complex : Case → List (List ℕ)
 complex c = complexTold (complexRead (c .order) (numbers (c .matrix)) (lent (c .order)) (lent (c .order)))
 
--- ---- real alone: order 1, entry 5; d: diagonal 1, 2, 4; order 3, where -0 stands below the diagonal twice, and last on it
+-- ---- real alone: order 1, entry 5; d: diagonal 1, 2, 4; order 3, where -0 stands below the diagonal twice, and last
+-- on it
 
 triangular : List Case
 triangular =
     case 1 (0x4014_0000_0000_0000 ∷ [])
     ∷ case 3 (0x3ff0_0000_0000_0000 ∷ 0 ∷ 0 ∷ 0 ∷ 0x4000_0000_0000_0000 ∷ 0 ∷ 0 ∷ 0 ∷ 0x4010_0000_0000_0000 ∷ [])
-    ∷ case 3 (0x3fd3_3333_3333_3333 ∷ 0x8000_0000_0000_0000 ∷ 0 ∷ 0xbfec_cccc_cccc_cccd ∷ 0x3fb9_9999_9999_999a ∷ 0x8000_0000_0000_0000
+    ∷ case 3 (0x3fd3_3333_3333_3333 ∷ 0x8000_0000_0000_0000 ∷ 0 ∷ 0xbfec_cccc_cccc_cccd ∷ 0x3fb9_9999_9999_999a
+    ∷ 0x8000_0000_0000_0000
     ∷ 0x3fe6_6666_6666_6666 ∷ 0x3fc9_9999_9999_999a ∷ 0x8000_0000_0000_0000 ∷ []) ∷ []
 
 reals : map real triangular
@@ -98,11 +108,13 @@ finites = refl
 singles : map complex triangular
     ≡ ((0 ∷ []) ∷ (0x4014_0000_0000_0000 ∷ []) ∷ (0 ∷ []) ∷ [])
     ∷ ((0 ∷ []) ∷ (0x3ff0_0000_0000_0000 ∷ 0x4000_0000_0000_0000 ∷ 0x4010_0000_0000_0000 ∷ []) ∷ (0 ∷ 0 ∷ 0 ∷ []) ∷ [])
-    ∷ ((0 ∷ []) ∷ (0x3fd3_3333_3333_3333 ∷ 0x3fb9_9999_9999_999a ∷ 0x8000_0000_0000_0000 ∷ []) ∷ (0 ∷ 0 ∷ 0 ∷ []) ∷ []) ∷ []
+    ∷ ((0 ∷ []) ∷ (0x3fd3_3333_3333_3333 ∷ 0x3fb9_9999_9999_999a ∷ 0x8000_0000_0000_0000 ∷ []) ∷ (0 ∷ 0 ∷ 0 ∷ []) ∷ [])
+    ∷ []
 unfolding openedReaders triangular case lent complex complexTold answerOf
 singles = refl
 
--- ---- blocks of two: b, J; order 3, a block and a number behind it, and before it; order 4, two blocks; half the trace -0; the discriminant +0
+-- ---- blocks of two: b, J; order 3, a block and a number behind it, and before it; order 4, two blocks; half the trace
+-- -0; the discriminant +0
 
 blocks : List Case
 blocks =
@@ -111,7 +123,8 @@ blocks =
     ∷ 0x3fe6_6666_6666_6666 ∷ 0xbfd3_3333_3333_3333 ∷ 0x3fec_cccc_cccc_cccd ∷ [])
     ∷ case 3 (0x3fec_cccc_cccc_cccd ∷ 0 ∷ 0 ∷ 0x3fe6_6666_6666_6666 ∷ 0x3fe0_0000_0000_0000 ∷ 0x3fd3_3333_3333_3333
     ∷ 0xbfd3_3333_3333_3333 ∷ 0xbfec_cccc_cccc_cccd ∷ 0x3fc9_9999_9999_999a ∷ [])
-    ∷ case 4 (0x3fe0_0000_0000_0000 ∷ 0x3fd3_3333_3333_3333 ∷ 0 ∷ 0 ∷ 0xbfec_cccc_cccc_cccd ∷ 0x3fc9_9999_9999_999a ∷ 0x8000_0000_0000_0000 ∷ 0
+    ∷ case 4 (0x3fe0_0000_0000_0000 ∷ 0x3fd3_3333_3333_3333 ∷ 0 ∷ 0 ∷ 0xbfec_cccc_cccc_cccd ∷ 0x3fc9_9999_9999_999a
+    ∷ 0x8000_0000_0000_0000 ∷ 0
     ∷ 0x3fe6_6666_6666_6666 ∷ 0xbfd3_3333_3333_3333 ∷ 0xbfb9_9999_9999_999a ∷ 0x3fe9_9999_9999_999a
     ∷ 0x3fd9_9999_9999_999a ∷ 0x3fe3_3333_3333_3333 ∷ 0xbfe6_6666_6666_6666 ∷ 0x3fd3_3333_3333_3333 ∷ [])
     ∷ case 2 (0x8000_0000_0000_0000 ∷ 0x3ff0_0000_0000_0000 ∷ 0xbff0_0000_0000_0000 ∷ 0x8000_0000_0000_0000 ∷ [])
@@ -158,8 +171,9 @@ complexKept f = f .answer ∷ shown (lent (f .of .order)) ∷ shown (lent (f .of
 infinite : Case
 infinite = case 3 (0 ∷ 0x3ff0_0000_0000_0000 ∷ 1 ∷ 0 ∷ 0 ∷ 0x3ff0_0000_0000_0000 ∷ 0 ∷ 0 ∷ 0x7ff0_0000_0000_0000 ∷ [])
 
--- By both: i, orders 0 and 65; too few entries, an infinity among them; h, NaN in row 2 of column 1, and an infinity in row 0 of column 2; an infinity
--- alone; n; row 2 of column 0 not 0, and so both entries below the diagonal; the same with an infinity last, which is told before the shape.
+-- By both: i, orders 0 and 65; too few entries, an infinity among them; h, NaN in row 2 of column 1, and an infinity in
+-- row 0 of column 2; an infinity alone; n; row 2 of column 0 not 0, and so both entries below the diagonal; the same
+-- with an infinity last, which is told before the shape.
 faults : List Fault
 faults =
     fault 0 [] (1 ∷ 0 ∷ 0 ∷ [])
@@ -185,15 +199,18 @@ finiteRefused : finite infinite ∷ complexFinite infinite ∷ []
 unfolding openedReaders infinite case lent finite complexFinite told complexTold answerOf
 finiteRefused = refl
 
--- By the complex reader alone: a discriminant above 0; one that is NaN, in row 1; an infinite root, the discriminant being -infinity; order 3, half the
--- trace infinite in row 1.
+-- By the complex reader alone: a discriminant above 0; one that is NaN, in row 1; an infinite root, the discriminant
+-- being -infinity; order 3, half the trace infinite in row 1.
 notComplexOnes : List Fault
 notComplexOnes =
-    fault 2 (0x3ff0_0000_0000_0000 ∷ 0x4008_0000_0000_0000 ∷ 0x4000_0000_0000_0000 ∷ 0x4010_0000_0000_0000 ∷ []) (11 ∷ 0 ∷ 0 ∷ [])
-    ∷ fault 3 (0x3ff0_0000_0000_0000 ∷ 0 ∷ 0 ∷ 0 ∷ 0x6bb0_0000_0000_0000 ∷ 0x6bb0_0000_0000_0000 ∷ 0 ∷ 0xebb0_0000_0000_0000 ∷ 0xebb0_0000_0000_0000 ∷ [])
+    fault 2 (0x3ff0_0000_0000_0000 ∷ 0x4008_0000_0000_0000 ∷ 0x4000_0000_0000_0000 ∷ 0x4010_0000_0000_0000 ∷ [])
+    (11 ∷ 0 ∷ 0 ∷ [])
+    ∷ fault 3 (0x3ff0_0000_0000_0000 ∷ 0 ∷ 0 ∷ 0 ∷ 0x6bb0_0000_0000_0000 ∷ 0x6bb0_0000_0000_0000 ∷ 0
+    ∷ 0xebb0_0000_0000_0000 ∷ 0xebb0_0000_0000_0000 ∷ [])
     (11 ∷ 1 ∷ 1 ∷ [])
     ∷ fault 2 (0 ∷ 0x6bb0_0000_0000_0000 ∷ 0xebb0_0000_0000_0000 ∷ 0 ∷ []) (8 ∷ 0 ∷ 0 ∷ [])
-    ∷ fault 3 (0x3ff0_0000_0000_0000 ∷ 0 ∷ 0 ∷ 0 ∷ 0x7fe8_0000_0000_0000 ∷ 0x3ff0_0000_0000_0000 ∷ 0 ∷ 0xbff0_0000_0000_0000 ∷ 0x7fe8_0000_0000_0000 ∷ [])
+    ∷ fault 3 (0x3ff0_0000_0000_0000 ∷ 0 ∷ 0 ∷ 0 ∷ 0x7fe8_0000_0000_0000 ∷ 0x3ff0_0000_0000_0000 ∷ 0
+    ∷ 0xbff0_0000_0000_0000 ∷ 0x7fe8_0000_0000_0000 ∷ [])
     (8 ∷ 1 ∷ 1 ∷ []) ∷ []
 
 notComplexRefused : map (λ f. complex (f .of)) notComplexOnes ≡ map complexKept notComplexOnes
@@ -201,7 +218,9 @@ unfolding openedReaders notComplexOnes fault case lent complex complexTold answe
 notComplexRefused = refl
 
 -- a list of eigenvalues of another length, each in turn
-lengths : told (realRead 1 (one ∷ []) []) ∷ complexTold (complexRead 1 (one ∷ []) [] (one ∷ [])) ∷ complexTold (complexRead 1 (one ∷ []) (one ∷ []) (one ∷ one ∷ [])) ∷ []
-    ≡ ((3 ∷ 0 ∷ 0 ∷ []) ∷ [] ∷ []) ∷ ((3 ∷ 0 ∷ 0 ∷ []) ∷ [] ∷ shown (one ∷ []) ∷ []) ∷ ((3 ∷ 0 ∷ 0 ∷ []) ∷ shown (one ∷ []) ∷ shown (one ∷ one ∷ []) ∷ []) ∷ []
+lengths : told (realRead 1 (one ∷ []) []) ∷ complexTold (complexRead 1 (one ∷ []) [] (one ∷ []))
+    ∷ complexTold (complexRead 1 (one ∷ []) (one ∷ []) (one ∷ one ∷ [])) ∷ []
+    ≡ ((3 ∷ 0 ∷ 0 ∷ []) ∷ [] ∷ []) ∷ ((3 ∷ 0 ∷ 0 ∷ []) ∷ [] ∷ shown (one ∷ []) ∷ [])
+    ∷ ((3 ∷ 0 ∷ 0 ∷ []) ∷ shown (one ∷ []) ∷ shown (one ∷ one ∷ []) ∷ []) ∷ []
 unfolding openedReaders told complexTold answerOf
 lengths = refl

@@ -9,7 +9,8 @@ use Rattle.loops.specs.Place.{place}
 use Rattle.loops.specs.Rounded.{_!_}
 use Rattle.loops.specs.Table.{table}
 use Rattle.scalar.specs.Class.{isFinite}
-use Rattle.refusal.specs.declared.refusal.Refusal.the-variants.{WrongLength, ResultNotFinite, ShapeSpoiled, ComplexEigenvalues, BlockNotComplex}
+use Rattle.refusal.specs.declared.refusal.Refusal.the-variants.{WrongLength, ResultNotFinite, ShapeSpoiled}
+use Rattle.refusal.specs.declared.refusal.Refusal.the-variants.{ComplexEigenvalues, BlockNotComplex}
 use Rattle.refusal.specs.declared.refusal.Checked.{Checked}
 use Rattle.refusal.specs.Refusal.{refuse, refuseAt, _next_, ifPassed}
 use Rattle.refusal.specs.Search.{firstOnDiagonal, firstSpoiling}
@@ -69,11 +70,13 @@ realRead n t values = diagonalBy (realChecks (realLengths n (length t) (length v
 
 -- The same of entries that are known to be finite.
 unfoldable pub realFiniteOf : ℕ → (t values : List Float) → Read
-realFiniteOf n t values = diagonalBy (finiteReadable (realLengths n (length t) (length values)) n t next pairCheck n t) n t values
+realFiniteOf n t values =
+    diagonalBy (finiteReadable (realLengths n (length t) (length values)) n t next pairCheck n t) n t values
 
 -- And where the shape needs no look either, as that of an accepted T: 6 and 9 are not checked.
 unfoldable pub diagonalIfReal : ℕ → List Float → List Float → Read
-diagonalIfReal n t values = diagonalBy (orderChecks n next realLengths n (length t) (length values) next pairCheck n t) n t values
+diagonalIfReal n t values =
+    diagonalBy (orderChecks n next realLengths n (length t) (length values) next pairCheck n t) n t values
 
 -- ---- the complex reader
 
@@ -100,15 +103,19 @@ complexly answer re im = record { answer = answer; re = re; im = im }
 
 -- where the checks have come to c, the lists are those of the eigenvalues; they are untouched where c is a refusal
 abbrev pub eigenvaluesBy : Checked → ℕ → (t re im : List Float) → ComplexRead
-eigenvaluesBy c n t re im = complexly c (ifPassed c (table n (λ k. eigenvalueAt n t k .re)) re) (ifPassed c (table n (λ k. eigenvalueAt n t k .im)) im)
+eigenvaluesBy c n t re im = complexly c (ifPassed c (table n (λ k. eigenvalueAt n t k .re)) re)
+    (ifPassed c (table n (λ k. eigenvalueAt n t k .im)) im)
 
 -- T, and two numbers for each row
 unfoldable pub complexLengths : (n tn re im : ℕ) → Checked
-complexLengths n tn re im = lengthCheck WrongLength tn (n * n) next lengthCheck WrongLength re n next lengthCheck WrongLength im n
+complexLengths n tn re im =
+    lengthCheck WrongLength tn (n * n) next lengthCheck WrongLength re n next lengthCheck WrongLength im n
 
 unfoldable pub complexRead : ℕ → List Float → List Float → List Float → ComplexRead
-complexRead n t re im = eigenvaluesBy (complexChecks (complexLengths n (length t) (length re) (length im)) n t) n t re im
+complexRead n t re im =
+    eigenvaluesBy (complexChecks (complexLengths n (length t) (length re) (length im)) n t) n t re im
 
 -- The same of entries that are known to be finite.
 unfoldable pub complexFiniteOf : ℕ → (t re im : List Float) → ComplexRead
-complexFiniteOf n t re im = eigenvaluesBy (finiteReadable (complexLengths n (length t) (length re) (length im)) n t next blockChecks n t) n t re im
+complexFiniteOf n t re im = eigenvaluesBy (finiteReadable (complexLengths n (length t) (length re) (length im)) n t
+    next blockChecks n t) n t re im

@@ -1,5 +1,5 @@
--- What the real reader promises (document 00, demand 3): given a T that may be read, its diagonal if every entry just below the diagonal is zero, and
--- else 'complex'. -0 counts as zero.
+-- What the real reader promises (document 00, demand 3): given a T that may be read, its diagonal if every entry just
+-- below the diagonal is zero, and else 'complex'. -0 counts as zero.
 use Prim.Native.Nat.{ℕ, _+_, _*_, _<_, _≤_}
 use mathlib.Core.Bool.{true, false}
 use mathlib.Core.Path.{_≡_}

@@ -9,7 +9,10 @@ ghost use Rattle.refusal.specs.Refusal.{_next_};
 ghost use Rattle.refusal.specs.Search.{firstOnDiagonal};
 ghost use Rattle.refusal.specs.Checks.{lengthCheck};
 ghost use Rattle.eigenvalues.specs.Blocks.{notComplex, eigenvalueAt};
-ghost use Rattle.eigenvalues.specs.Readers.{shapeCheck, readable, finiteReadable, anyPaired, pairCheck, diagonal, read, diagonalBy, realRead, realFiniteOf, diagonalIfReal, notFiniteAt, blockChecks, complexly, eigenvaluesBy, complexRead, complexFiniteOf};
+ghost use Rattle.eigenvalues.specs.Readers.{shapeCheck, readable, finiteReadable, anyPaired, pairCheck, diagonal};
+ghost use Rattle.eigenvalues.specs.Readers.{read, diagonalBy, realRead, realFiniteOf, diagonalIfReal};
+ghost use Rattle.eigenvalues.specs.Readers.{notFiniteAt, blockChecks, complexly, eigenvaluesBy, complexRead};
+ghost use Rattle.eigenvalues.specs.Readers.{complexFiniteOf};
 ghost use Rattle.eigenvalues.specs.Real.{RealAnswer};
 use crate::block::BlockAnswer;
 use crate::block::answer_at;
@@ -218,9 +221,11 @@ fn pairs_of(t: &[f64], n: usize, re: &mut [f64], im: &mut [f64]) -> Checked
 
 // The same behind the checks that have come to `checked`.
 fn then_pairs(t: &[f64], n: usize, re: &mut [f64], im: &mut [f64], checked: Checked) -> Checked
-    requires { ⌜ (checked ≡ Passed → (n ≤ 64) × (length (now t) ≡ n * n) × (length (now re) ≡ n) × (length (now im) ≡ n)) ⌝ }
+    requires { ⌜ (checked ≡ Passed → (n ≤ 64) × (length (now t) ≡ n * n) × (length (now re) ≡ n)
+        × (length (now im) ≡ n)) ⌝ }
     ensures { λ r. ⌜ complexly r (now (re .exit)) (now (im .exit))
-        ≡ eigenvaluesBy (checked next blockChecks n (now (t .entry))) n (now (t .entry)) (now (re .entry)) (now (im .entry)) ⌝ }
+        ≡ eigenvaluesBy (checked next blockChecks n (now (t .entry))) n (now (t .entry)) (now (re .entry))
+        (now (im .entry)) ⌝ }
 {
     let Checked::Passed = checked else {
         return checked;

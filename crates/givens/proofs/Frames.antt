@@ -14,7 +14,8 @@ pub rotated-length : (r : Rotation) (n i c0 c1 : ℕ) (t : List Float) → lengt
 unfolding rotated
 rotated-length r n i c0 c1 t = onEntries-length _ _ _ _ _ _ _
 
-pub rotated-frame : (r : Rotation) (n i c0 c1 : ℕ) (t : List Float) (i' j' : ℕ) → i' < n → (Inside i (i + 2) c0 c1 i' j' → ⊥) → rotated r n i c0 c1 t ! place n i' j' ≡ t ! place n i' j'
+pub rotated-frame : (r : Rotation) (n i c0 c1 : ℕ) (t : List Float) (i' j' : ℕ) → i' < n → (Inside i (i + 2) c0 c1 i' j' → ⊥)
+    → rotated r n i c0 c1 t ! place n i' j' ≡ t ! place n i' j'
 unfolding rotated
 rotated-frame r n i c0 c1 t i' j' l out = onEntries-frame _ _ _ _ _ _ _ i' j' l out
 
@@ -22,6 +23,7 @@ pub rotatedRows-length : (r : Rotation) (n k rows : ℕ) (t : List Float) → le
 unfolding rotatedRows
 rotatedRows-length r n k rows t = onEntries-length _ _ _ _ _ _ _
 
-pub rotatedRows-frame : (r : Rotation) (n k rows : ℕ) (t : List Float) (i' j' : ℕ) → i' < n → (Inside 0 rows k (k + 2) i' j' → ⊥) → rotatedRows r n k rows t ! place n i' j' ≡ t ! place n i' j'
+pub rotatedRows-frame : (r : Rotation) (n k rows : ℕ) (t : List Float) (i' j' : ℕ) → i' < n → (Inside 0 rows k (k + 2) i' j' → ⊥)
+    → rotatedRows r n k rows t ! place n i' j' ≡ t ! place n i' j'
 unfolding rotatedRows
 rotatedRows-frame r n k rows t i' j' l out = onEntries-frame _ _ _ _ _ _ _ i' j' l out

@@ -18,7 +18,8 @@ use Rattle.givens.specs.declared.Rotation.{Rotation}
 use Rattle.givens.specs.Rotated.{turnedRows, turnedColumns}
 
 pub turn-down : (r : Rotation) (n i c0 j : ℕ) (t₀ t : List Float) → i + 2 ≤ n → c0 ≤ j → t ≡ inBlock n i (i + 2) c0 j (turnedRows r n i t₀) t₀
-    → set (set t (place n i j) ((t ! place n i j) ⊗ r .c ⊖ r .s ⊗ (t ! place n (i + 1) j))) (place n (i + 1) j) (r .s ⊗ (t ! place n i j) ⊕ (t ! place n (i + 1) j) ⊗ r .c)
+    → set (set t (place n i j) ((t ! place n i j) ⊗ r .c ⊖ r .s ⊗ (t ! place n (i + 1) j))) (place n (i + 1) j)
+    (r .s ⊗ (t ! place n i j) ⊕ (t ! place n (i + 1) j) ⊗ r .c)
     ≡ inBlock n i (i + 2) c0 (j + 1) (turnedRows r n i t₀) t₀
 unfolding turnedRows
 turn-down r n i c0 j t₀ t h k e =
@@ -38,8 +39,10 @@ beside n i k h l =
     let e : (k + 1) * n ≡ k * n + n = omega (arith, suc-mul k n, ap (λ m. m * n) (add-one k)) in
     record { next = omega arith; below = omega (arith, in-square n i (k + 1) h (omega arith)) }
 
-pub turn-across : (r : Rotation) (n i k : ℕ) (t₀ t : List Float) → length t₀ ≡ n * n → i < n → k + 2 ≤ n → t ≡ inBlock n 0 i k (k + 2) (turnedColumns r n k t₀) t₀
-    → set (set t (place n i k) ((t ! place n i k) ⊗ r .c ⊕ r .s ⊗ (t ! (place n i k + n)))) (place n i k + n) (neg (r .s) ⊗ (t ! place n i k) ⊕ (t ! (place n i k + n)) ⊗ r .c)
+pub turn-across : (r : Rotation) (n i k : ℕ) (t₀ t : List Float) → length t₀ ≡ n * n → i < n → k + 2 ≤ n
+    → t ≡ inBlock n 0 i k (k + 2) (turnedColumns r n k t₀) t₀
+    → set (set t (place n i k) ((t ! place n i k) ⊗ r .c ⊕ r .s ⊗ (t ! (place n i k + n)))) (place n i k + n)
+    (neg (r .s) ⊗ (t ! place n i k) ⊕ (t ! (place n i k + n)) ⊗ r .c)
     ≡ inBlock n 0 (i + 1) k (k + 2) (turnedColumns r n k t₀) t₀
 unfolding turnedColumns
 turn-across r n i k t₀ t size h l e =

@@ -1,5 +1,6 @@
--- The reduction to Hessenberg form, column by column, with reflections of both sides (document 01, step 2; docs/SUMS.md, 6.1).
--- The workspace has 2n numbers. Its first half is lent to the clearing of each column; its second half keeps the norm that each column answers.
+-- The reduction to Hessenberg form, column by column, with reflections of both sides (document 01, step 2;
+-- docs/SUMS.md, 6.1). The workspace has 2n numbers. Its first half is lent to the clearing of each column; its second
+-- half keeps the norm that each column answers.
 use Prim.Native.Nat.{ℕ, _+_, _*_, _-_}
 use mathlib.Core.Bool.{Bool, cond, _&&_}
 use mathlib.Core.List.{List}
@@ -31,4 +32,5 @@ workFits n w = eqb (length w) (2 * n)
 
 -- every column but the last; nothing is done where t is no matrix of order n, or the workspace has another length
 unfoldable pub reduced : ℕ → List Float → List Float → Reduction
-reduced n t w = cond (blockFits n (length t) n n && workFits n w) (times (reduceColumn n) (n - 1) (reduction t w)) (reduction t w)
+reduced n t w =
+    cond (blockFits n (length t) n n && workFits n w) (times (reduceColumn n) (n - 1) (reduction t w)) (reduction t w)

@@ -1,4 +1,5 @@
--- H and Q out of the reduced matrix and the norms that stand in the workspace's second half (docs/SUMS.md, 6.2 and 6.3).
+-- H and Q out of the reduced matrix and the norms that stand in the workspace's second half (docs/SUMS.md, 6.2 and
+-- 6.3).
 use Prim.Native.Nat.{ℕ, _+_, _*_, _-_}
 use mathlib.Core.Bool.{cond}
 use mathlib.Core.List.{List}
@@ -12,7 +13,8 @@ use Rattle.matrix.specs.Entries.{Rule, onEntries}
 use Rattle.householder.specs.Assembled.{assembled}
 use Rattle.hessenberg.specs.Reduced.{workFits}
 
--- An entry of H: +0 from the second subdiagonal down, the magnitude of its column's norm just below the diagonal, and else what stands there.
+-- An entry of H: +0 from the second subdiagonal down, the magnitude of its column's norm just below the diagonal, and
+-- else what stands there.
 unfoldable pub ofH : ℕ → List Float → Rule
 ofH n w i j x = cond (leb (j + 2) i) zero (cond (eqb i (j + 1)) (modulusOf (w ! (n + j))) x)
 

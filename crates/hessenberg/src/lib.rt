@@ -20,7 +20,8 @@ fn work_fits(n: usize, len: usize) -> bool
 // Column k: cleared in the first half of the workspace, its norm kept in the second.
 fn reduce_column(hess: &mut [f64], n: usize, k: usize, work: &mut [f64])
     requires { ⌜ (n ≤ 64) × (k + 2 ≤ n) × (length (now work) ≡ 2 * n) ⌝ }
-    ensures { λ _. ⌜ reduction (now (hess .exit)) (now (work .exit)) ≡ reduceColumn n k (reduction (now (hess .entry)) (now (work .entry))) ⌝ }
+    ensures { λ _. ⌜ reduction (now (hess .exit)) (now (work .exit))
+        ≡ reduceColumn n k (reduction (now (hess .entry)) (now (work .entry))) ⌝ }
 {
     let norm = householder::clear_column(hess, n, k, &mut work[0..n]);
     work[n + k] = norm;
@@ -29,7 +30,8 @@ fn reduce_column(hess: &mut [f64], n: usize, k: usize, work: &mut [f64])
 // All columns but the last. The axes of the reflections stand below the diagonal afterwards, and the norms
 // with their signs in the second half of the workspace.
 pub fn new_with_workspace(hess: &mut [f64], n: usize, work: &mut [f64])
-    ensures { λ _. ⌜ reduction (now (hess .exit)) (now (work .exit)) ≡ reduced n (now (hess .entry)) (now (work .entry)) ⌝ }
+    ensures { λ _. ⌜ reduction (now (hess .exit)) (now (work .exit))
+        ≡ reduced n (now (hess .entry)) (now (work .entry)) ⌝ }
 {
     if !matrix::block_fits(n, hess.len(), 0, n, 0, n) {
         return;

@@ -38,8 +38,10 @@ bothSides-length n k a s t = simp (reflected-length, reflectedRows-length)
 bothSides-frame : (n k : ℕ) (a : List Float) (s : Float) (t : List Float) (i j : ℕ) → i < n → j ≤ k → bothSides n k a s t ! place n i j ≡ t ! place n i j
 unfolding bothSides
 bothSides-frame n k a s t i j h l =
-    let columns : (u : List Float) → reflected lanes a s n (k + 1) (k + 1) n u ! place n i j ≡ u ! place n i j = λ u. reflected-frame _ _ _ _ _ _ _ _ i j h (λ o. omega arith) in
-    let rows : (u : List Float) → reflectedRows a s n n (k + 1) u ! place n i j ≡ u ! place n i j = λ u. reflectedRows-frame _ _ _ _ _ _ i j h (λ o. omega arith) in
+    let columns : (u : List Float) → reflected lanes a s n (k + 1) (k + 1) n u ! place n i j ≡ u ! place n i j =
+    λ u. reflected-frame _ _ _ _ _ _ _ _ i j h (λ o. omega arith) in
+    let rows : (u : List Float) → reflectedRows a s n n (k + 1) u ! place n i j ≡ u ! place n i j =
+    λ u. reflectedRows-frame _ _ _ _ _ _ i j h (λ o. omega arith) in
     simp (columns, rows)
 
 -- ---- a column cleared
@@ -73,13 +75,15 @@ module _ (n k : ℕ) (t : List Float) (f : Fits n (length t) (k + 2) (k + 2)) wh
   unfolding clearedHere made
   here-length w =
       let r = axisOf lanes (belowRow n k t) in
-      cond-hold (λ s. length s ≡ length t) (r .reflected) (bothSides n k (r .axis) (signumOf (r .norm)) made) made (λ _. bothSides-length n k _ _ made ∙ made-length) made-length
+      cond-hold (λ s. length s ≡ length t) (r .reflected) (bothSides n k (r .axis) (signumOf (r .norm)) made) made (λ _. bothSides-length n k _ _ made
+      ∙ made-length) made-length
 
   here-frame : (w : List Float) (i j : ℕ) → i < n → j ≤ k → (j ≡ k → i ≤ k) → clearedHere n k t w .matrix ! place n i j ≡ t ! place n i j
   unfolding clearedHere made
   here-frame w i j h l m =
       let r = axisOf lanes (belowRow n k t) in
-      cond-hold (λ s. s ! place n i j ≡ t ! place n i j) (r .reflected) (bothSides n k (r .axis) (signumOf (r .norm)) made) made (λ _. bothSides-frame n k _ _ made i j h l ∙ made-frame i j h l m) (made-frame i j h l m)
+      cond-hold (λ s. s ! place n i j ≡ t ! place n i j) (r .reflected) (bothSides n k (r .axis) (signumOf (r .norm)) made) made
+      (λ _. bothSides-frame n k _ _ made i j h l ∙ made-frame i j h l m) (made-frame i j h l m)
 
   here-work : (w : List Float) → length (clearedHere n k t w .work) ≡ length w
   unfolding clearedHere
@@ -88,7 +92,8 @@ module _ (n k : ℕ) (t : List Float) (f : Fits n (length t) (k + 2) (k + 2)) wh
       cond-hold (λ s. length s ≡ length w) (r .reflected) (copied (r .axis) w) w (λ _. copied-length _ w) refl
 
 -- what holds where nothing is done and where the column is cleared, holds
-either : (P : Cleared → Type 0) (n k : ℕ) (t w : List Float) → (Fits n (length t) (k + 2) (k + 2) → P (clearedHere n k t w)) → P (cleared nan t w) → P (clearOf n k t w)
+either : (P : Cleared → Type 0) (n k : ℕ) (t w : List Float) → (Fits n (length t) (k + 2) (k + 2) → P (clearedHere n k t w)) → P (cleared nan t w)
+    → P (clearOf n k t w)
 unfolding clearOf
 either P n k t w h l = go (blockFits n (length t) (k + 2) (k + 2)) (leb n (length w)) (λ e. h (fits n (length t) (k + 2) (k + 2) e))
   where
@@ -121,4 +126,5 @@ pub assembled-length : (n : ℕ) (m signs q : List Float) → length (assembled 
 unfolding assembled
 assembled-length n m signs q =
     let whole : Bool = blockFits n (length m) n n && (blockFits n (length q) n n && leb (n - 1) (length signs)) in
-    cond-hold (λ s. length s ≡ length q) whole (down (withAxis n m signs) (n - 1) (identity n q)) q (λ _. down-length (withAxis n m signs) (n - 1) (identity n q) (λ i s. withAxis-length n m signs i s) ∙ identity-length n q) refl
+    cond-hold (λ s. length s ≡ length q) whole (down (withAxis n m signs) (n - 1) (identity n q)) q
+    (λ _. down-length (withAxis n m signs) (n - 1) (identity n q) (λ i s. withAxis-length n m signs i s) ∙ identity-length n q) refl

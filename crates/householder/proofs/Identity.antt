@@ -42,7 +42,8 @@ module _ (n : ℕ) (q : List Float) (order : n ≤ 64) (size : length q ≡ n * 
   pub ones-identity : times (ones n) n (filled zero q) ≡ identity n q
   unfolding identity
   ones-identity =
-      inBlock-is n 0 n 0 n _ q (times (ones n) n (filled zero q)) size (times-length (ones n) n _ (λ k s. simp length-set) ∙ cleared-length) (omega arith) (omega arith)
+      inBlock-is n 0 n 0 n _ q (times (ones n) n (filled zero q)) size (times-length (ones n) n _ (λ k s. simp length-set) ∙ cleared-length) (omega arith)
+      (omega arith)
       (λ i j a b at. go i j a b (ℕ-discrete i j))
       (λ i j a b out. absurd (out (omega arith)))
       ∙ sym (onEntries-does n 0 n 0 n _ q order size (omega arith) (omega arith))

@@ -34,7 +34,8 @@ alike sum c true = refl
 alike sum c false = refl
 
 -- a column with a number, by whether its factor is zero
-axis-by : (sum : Order) (c : List Float) (b : Bool) → length c ≢ 0 → isZero (factorOf sum c) ≡ b → axisOf sum c ≡ inWay sum c (cond b (cond (allZero c) AllZero TooSmall) Reflected)
+axis-by : (sum : Order) (c : List Float) (b : Bool) → length c ≢ 0 → isZero (factorOf sum c) ≡ b
+    → axisOf sum c ≡ inWay sum c (cond b (cond (allZero c) AllZero TooSmall) Reflected)
 unfolding axisOf wayOf
 axis-by sum c b h z =
     let here : axisOf sum c ≡ inWay sum c (wayOf sum c) = rw (ne-eqb _ _ h) in

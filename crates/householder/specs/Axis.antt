@@ -1,5 +1,6 @@
--- The axis of the reflection that takes a column c to a multiple of the first unit vector (document 01, step 4; docs/SUMS.md, 3.1 to 3.3).
--- `sum` is the order of the column's sums: `lanes` where its length is known at run time, `bare` for a column of two or three.
+-- The axis of the reflection that takes a column c to a multiple of the first unit vector (document 01, step 4;
+-- docs/SUMS.md, 3.1 to 3.3). `sum` is the order of the column's sums: `lanes` where its length is known at run time,
+-- `bare` for a column of two or three.
 use mathlib.Core.Bool.{Bool, true, false, cond, _&&_}
 use mathlib.Core.List.{List}
 use lib.Dec.{eqb}
@@ -14,7 +15,8 @@ use Rattle.scalar.specs.Class.{isZero}
 use Rattle.matrix.specs.Sum.{Order}
 use Rattle.matrix.specs.Vectors.{normSquared, normOf, unscaled, normalized}
 
--- what the routine leaves: the column rewritten, what would be its first number after the reflection, and whether there is a reflection
+-- what the routine leaves: the column rewritten, what would be its first number after the reflection, and whether there
+-- is a reflection
 pub record AxisAnswer : Type 0 where
   pub axis : List Float
   pub norm : Float
@@ -27,7 +29,8 @@ axisAnswer c x b = record { axis = c; norm = x; reflected = b }
 unfoldable pub signedNorm : Order → List Float → Float
 signedNorm sum c = toExpOf (c ! 0) .sign ⊗ normOf sum c
 
--- the square of the norm that the column has once the signed norm is added to its first number, worked out from what is at hand
+-- the square of the norm that the column has once the signed norm is added to its first number, worked out from what is
+-- at hand
 unfoldable pub factorOf : Order → List Float → Float
 factorOf sum c = (normSquared sum c ⊕ toExpOf (c ! 0) .magnitude ⊗ normOf sum c) ⊗ two
 
@@ -35,8 +38,8 @@ factorOf sum c = (normSquared sum c ⊕ toExpOf (c ! 0) .magnitude ⊗ normOf su
 unfoldable pub shifted : Order → List Float → List Float
 shifted sum c = set c 0 ((c ! 0) ⊕ signedNorm sum c)
 
--- Three ways: the column is reflected; it is zero throughout; or some number in it is not zero, and yet all squares vanish.
--- The Rust answers the last two alike.
+-- Three ways: the column is reflected; it is zero throughout; or some number in it is not zero, and yet all squares
+-- vanish. The Rust answers the last two alike.
 pub data Way : Type 0 where
   Reflected : Way
   AllZero : Way
@@ -48,10 +51,11 @@ allZero c = times (λ i b. b && isZero (c ! i)) (length c) true
 unfoldable pub wayOf : Order → List Float → Way
 wayOf sum c = cond (isZero (factorOf sum c)) (cond (allZero c) AllZero TooSmall) Reflected
 
--- Reflected: divided by the root of the factor, and then by the norm that is left; the norm's sign is turned. Else the shifted column and the
--- signed norm as they are.
+-- Reflected: divided by the root of the factor, and then by the norm that is left; the norm's sign is turned. Else the
+-- shifted column and the signed norm as they are.
 unfoldable pub inWay : Order → List Float → Way → AxisAnswer
-inWay sum c Reflected = axisAnswer (normalized sum (unscaled (rootOf (factorOf sum c)) (shifted sum c))) (neg (signedNorm sum c)) true
+inWay sum c Reflected =
+    axisAnswer (normalized sum (unscaled (rootOf (factorOf sum c)) (shifted sum c))) (neg (signedNorm sum c)) true
 inWay sum c AllZero = axisAnswer (shifted sum c) (signedNorm sum c) false
 inWay sum c TooSmall = axisAnswer (shifted sum c) (signedNorm sum c) false
 

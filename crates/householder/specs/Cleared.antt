@@ -1,4 +1,5 @@
--- Column k of a matrix of order n cleared by a reflection of both sides (document 01, steps 2 and 4; docs/SUMS.md, 3.4).
+-- Column k of a matrix of order n cleared by a reflection of both sides (document 01, steps 2 and 4; docs/SUMS.md,
+-- 3.4).
 use Prim.Native.Nat.{ℕ, _+_}
 use mathlib.Core.Bool.{cond, _&&_}
 use mathlib.Core.List.{List}
@@ -36,8 +37,10 @@ unfoldable pub clearedHere : (n k : ℕ) → (t w : List Float) → Cleared
 clearedHere n k t w =
     let r = axisOf lanes (belowRow n k t) in
     let t' = onPart (λ c. axisOf lanes c .axis) (place n (k + 1) k) (place n n k) t in
-    cleared (r .norm) (cond (r .reflected) (bothSides n k (r .axis) (signumOf (r .norm)) t') t') (cond (r .reflected) (copied (r .axis) w) w)
+    cleared (r .norm) (cond (r .reflected) (bothSides n k (r .axis) (signumOf (r .norm)) t') t')
+    (cond (r .reflected) (copied (r .axis) w) w)
 
 -- nothing is done, and the answer is NaN, where there is no row below row k, or the workspace is shorter than n
 unfoldable pub clearOf : (n k : ℕ) → (t w : List Float) → Cleared
-clearOf n k t w = cond (blockFits n (length t) (k + 2) (k + 2) && leb n (length w)) (clearedHere n k t w) (cleared nan t w)
+clearOf n k t w =
+    cond (blockFits n (length t) (k + 2) (k + 2) && leb n (length w)) (clearedHere n k t w) (cleared nan t w)

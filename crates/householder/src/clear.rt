@@ -27,7 +27,8 @@ fn reflect_both_sides(t: &mut [f64], n: usize, k: usize, work: &mut [f64], sign:
 // both sides, and leaves the reflection's axis there. Answers the norm with its sign; NaN, with nothing
 // done, where there is no row below row icol or `work` is shorter than n.
 pub fn clear_column(t: &mut [f64], n: usize, icol: usize, work: &mut [f64]) -> f64
-    ensures { λ r. ⌜ cleared r (now (t .exit)) (now (work .exit)) ≡ clearOf n icol (now (t .entry)) (now (work .entry)) ⌝ }
+    ensures { λ r. ⌜ cleared r (now (t .exit)) (now (work .exit))
+        ≡ clearOf n icol (now (t .entry)) (now (work .entry)) ⌝ }
 {
     if !matrix::block_fits(n, t.len(), icol, 2, icol, 2) {
         return scalar::not_a_number();

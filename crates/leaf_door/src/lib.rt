@@ -23,7 +23,8 @@ pub extern "C" fn manulsek_leaf_dot(x: &[f64], y: &[f64]) -> f64
 // The column becomes the axis; the norm with its sign is answered.
 #[no_mangle]
 pub extern "C" fn manulsek_leaf_axis(c: &mut [f64]) -> f64
-    ensures { λ r. ⌜ (r ≡ axisOf lanes (now (c .entry)) .norm) × (now (c .exit) ≡ axisOf lanes (now (c .entry)) .axis) ⌝ }
+    ensures { λ r. ⌜ r ≡ axisOf lanes (now (c .entry)) .norm ⌝ }
+    ensures { λ r. ⌜ now (c .exit) ≡ axisOf lanes (now (c .entry)) .axis ⌝ }
 {
     let axis = householder::reflection_axis_mut(c);
     axis.norm
@@ -69,7 +70,8 @@ pub extern "C" fn manulsek_leaf_reflect3(
     c0: usize,
     c1: usize,
 )
-    ensures { λ _. ⌜ now (t .exit) ≡ reflected bare (list3 (record { x = x; y = y; z = z })) one n row c0 c1 (now (t .entry)) ⌝ }
+    ensures { λ _. ⌜ now (t .exit) ≡ reflected bare (list3 (record { x = x; y = y; z = z })) one n row c0 c1
+        (now (t .entry)) ⌝ }
 {
     reflection::reflect3(Vector3 { x, y, z }, t, n, row, c0, c1);
 }
@@ -84,7 +86,8 @@ pub extern "C" fn manulsek_leaf_reflect_rows3(
     rows: usize,
     c0: usize,
 )
-    ensures { λ _. ⌜ now (t .exit) ≡ reflectedRows (list3 (record { x = x; y = y; z = z })) one n rows c0 (now (t .entry)) ⌝ }
+    ensures { λ _. ⌜ now (t .exit) ≡ reflectedRows (list3 (record { x = x; y = y; z = z })) one n rows c0
+        (now (t .entry)) ⌝ }
 {
     reflection::reflect_rows3(Vector3 { x, y, z }, t, n, rows, c0);
 }
@@ -125,7 +128,8 @@ pub extern "C" fn manulsek_leaf_clear_column(
     icol: usize,
     work: &mut [f64],
 ) -> f64
-    ensures { λ r. ⌜ cleared r (now (t .exit)) (now (work .exit)) ≡ clearOf n icol (now (t .entry)) (now (work .entry)) ⌝ }
+    ensures { λ r. ⌜ cleared r (now (t .exit)) (now (work .exit))
+        ≡ clearOf n icol (now (t .entry)) (now (work .entry)) ⌝ }
 {
     householder::clear_column(t, n, icol, work)
 }

@@ -19,8 +19,8 @@ mod vectors;
 use libc::STDIN_FILENO;
 
 // Every name stands in the list below. A line of it has the places of its calls' numbers (`case::case_of`), a digit for
-// each, in their order, then a space and the names, each behind a |. The functions of `case` go by the line, counted from
-// 0, and those that they call by the name's place in the line, counted from 1.
+// each, in their order, then a space and the names, each behind a |. The functions of `case` go by the line, counted
+// from 0, and those that they call by the name's place in the line, counted from 1.
 fn main() {
     let mut text = io::large_buffer();
     let n = io::read_full(STDIN_FILENO, &mut text);

@@ -6,8 +6,8 @@ use crate::case::case_of;
 use crate::say::whole;
 use crate::say::word;
 
-// Where a name stands in a list: in which line, 0 for the first, and as which name of the line, 1 for the first. The line
-// begins with the places of the numbers.
+// Where a name stands in a list: in which line, 0 for the first, and as which name of the line, 1 for the first. The
+// line begins with the places of the numbers.
 struct Found {
     group: usize,
     k: usize,
@@ -83,8 +83,8 @@ fn name_end(line: &[u8]) -> usize
     line.len()
 }
 
-// The place of the number that was begun last, of so many. Where more were begun than there are places for, it is 0: the
-// call is refused for their number.
+// The place of the number that was begun last, of so many. Where more were begun than there are places for, it is 0:
+// the call is refused for their number.
 fn place(places: &[u8], count: usize) -> usize {
     if count == 0 {
         return 0;

@@ -32,8 +32,8 @@ pub(crate) fn columns(c: Case) -> usize {
     icol + 1
 }
 
-// A reduction of so many columns, with Q and a sign for each: matrix and Q have 100 numbers, for which there is no room,
-// where the order or the columns are above 9.
+// A reduction of so many columns, with Q and a sign for each: matrix and Q have 100 numbers, for which there is no
+// room, where the order or the columns are above 9.
 pub(crate) fn sized(c: Case, columns: usize) -> Case {
     let n = c.n;
     let mut d = c;

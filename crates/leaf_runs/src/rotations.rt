@@ -25,7 +25,8 @@ fn made(m: Made) {
     }
 }
 
-// From the first two numbers of a seed, for `cancel_y` the second one first; the tolerance is the third one's magnitude.
+// From the first two numbers of a seed, for `cancel_y` the second one first; the tolerance is the third one's
+// magnitude.
 pub(crate) fn of_seed(k: usize, seed: usize) {
     let x = drawn(seed, 0);
     let y = drawn(seed, 1);

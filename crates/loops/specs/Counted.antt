@@ -25,12 +25,14 @@ module _ {A : Type 0} {done : A → Bool} {turn : A → A} {count : A → ℕ} (
 
   -- while it is not, one more is one turn more
   pub run-further : (b : ℕ) (x : A) → done (run b x) ≡ false → run (b + 1) x ≡ turn (run b x)
-  run-further b x h = until-portions done turn b 1 x ∙ until-turn done turn 1 (run b x) (omega arith) h ∙ until-out done turn (turn (run b x))
+  run-further b x h = until-portions done turn b 1 x ∙ until-turn done turn 1 (run b x) (omega arith) h
+      ∙ until-out done turn (turn (run b x))
 
   -- and all its turns have counted
   pub open-count : (b : ℕ) (x : A) → done (run b x) ≡ false → count (run b x) ≡ count x + b
   open-count b x =
-      until-walk (λ m y. done y ≡ false → count y ≡ count x + m) done turn b x (λ m l d h still. absurd (true≢false (sym d ∙ still)))
+      until-walk (λ m y. done y ≡ false → count y ≡ count x + m) done turn b x
+      (λ m l d h still. absurd (true≢false (sym d ∙ still)))
       (λ m l d h still. counted .going _ still ∙ (let before = h d in omega arith)) (λ _. sym (add-zero (count x)))
 
   -- no run counts more than its budget
@@ -52,4 +54,5 @@ module _ {A : Type 0} {done : A → Bool} {turn : A → A} {count : A → ℕ} (
     where
       go : (d : Bool) → done (run b x) ≡ d → count (run (b + 1) x) ≡ count x + b
       go true e = ap count (run-settled b (b + 1) x e (omega arith)) ∙ all
-      go false e = let next = ap count (run-further b x e) in omega (arith, counted .least (run b x), counted .most (run b x), count-most (b + 1) x)
+      go false e = let next = ap count (run-further b x e) in
+          omega (arith, counted .least (run b x), counted .most (run b x), count-most (b + 1) x)

@@ -1,5 +1,6 @@
--- The first of the numbers below n that a test names, and n itself where it names none: a search that a loop makes from 0 on.
--- What is left to search at k is `firstFrom test n k`, so a loop's invariant says that this equals the whole search.
+-- The first of the numbers below n that a test names, and n itself where it names none: a search that a loop makes from
+-- 0 on. What is left to search at k is `firstFrom test n k`, so a loop's invariant says that this equals the whole
+-- search.
 use mathlib.Core.Path.{_≡_, refl, sym, ap, _∙_}
 use mathlib.Core.Bool.{Bool, true, false}
 use Prim.Native.Nat.{ℕ, zero, suc, _+_, _-_, _<_, _≤_}
@@ -41,7 +42,8 @@ first-none test n k l =
 -- ---- what is found
 
 -- by induction over what is left to search
-from : (P : ℕ → ℕ → Type 0) (test : ℕ → Bool) (n : ℕ) → ((k : ℕ) → k < n → test k ≡ true → P k k) → ((k m : ℕ) → k < n → test k ≡ false → P (k + 1) m → P k m)
+from : (P : ℕ → ℕ → Type 0) (test : ℕ → Bool) (n : ℕ) → ((k : ℕ) → k < n → test k ≡ true → P k k)
+    → ((k m : ℕ) → k < n → test k ≡ false → P (k + 1) m → P k m)
     → P n n → (left k : ℕ) → left + k ≡ n → P k (firstFrom test n k)
 from P test n here on none zero k e = let q : k ≡ n = omega arith in rw (first-none test n k (omega arith), q) none
 from P test n here on none (suc left) k e = go (test k) refl (from P test n here on none left (k + 1) (omega arith))
@@ -51,11 +53,13 @@ from P test n here on none (suc left) k e = go (test k) refl (from P test n here
     go false h later = rw (first-on test n k (omega arith) h) (on k _ (omega arith) h later)
 
 pub first-within : (test : ℕ → Bool) (n k : ℕ) → k ≤ n → firstFrom test n k ≤ n
-first-within test n k l = from (λ k m. k ≤ n → m ≤ n) test n (λ k l h a. a) (λ k m l h r a. r (omega arith)) (λ a. a) (n - k) k (omega arith) l
+first-within test n k l = from (λ k m. k ≤ n → m ≤ n) test n (λ k l h a. a) (λ k m l h r a. r (omega arith)) (λ a. a)
+    (n - k) k (omega arith) l
 
 -- the test names it
 pub first-named : (test : ℕ → Bool) (n k : ℕ) → k ≤ n → firstFrom test n k < n → test (firstFrom test n k) ≡ true
-first-named test n k l = from (λ _ m. m < n → test m ≡ true) test n (λ k l h _. h) (λ k m l h r. r) (λ a. absurd (omega arith)) (n - k) k (omega arith)
+first-named test n k l = from (λ _ m. m < n → test m ≡ true) test n (λ k l h _. h) (λ k m l h r. r)
+    (λ a. absurd (omega arith)) (n - k) k (omega arith)
 
 -- and none before it
 pub first-others : (test : ℕ → Bool) (n k : ℕ) → k ≤ n → (i : ℕ) → k ≤ i → i < firstFrom test n k → test i ≡ false
@@ -64,20 +68,25 @@ first-others test n k l =
     (λ k m l h r i a b. go k m h r i a b (decLt k i))
     (λ i a b. absurd (omega arith)) (n - k) k (omega arith)
   where
-    go : (k m : ℕ) → test k ≡ false → ((i : ℕ) → k + 1 ≤ i → i < m → test i ≡ false) → (i : ℕ) → k ≤ i → i < m → Dec (k < i) → test i ≡ false
+    go : (k m : ℕ) → test k ≡ false → ((i : ℕ) → k + 1 ≤ i → i < m → test i ≡ false) → (i : ℕ) → k ≤ i → i < m
+        → Dec (k < i) → test i ≡ false
     go k m h r i a b (yes d) = r i (omega arith) b
     go k m h r i a b (no d) = let e : i ≡ k = omega arith in ap test e ∙ h
 
 -- numbers that the test does not name are passed over
-pub first-past : (test : ℕ → Bool) (n k e : ℕ) → k ≤ e → e ≤ n → ((i : ℕ) → k ≤ i → i < e → test i ≡ false) → firstFrom test n k ≡ firstFrom test n e
+pub first-past : (test : ℕ → Bool) (n k e : ℕ) → k ≤ e → e ≤ n → ((i : ℕ) → k ≤ i → i < e → test i ≡ false)
+    → firstFrom test n k ≡ firstFrom test n e
 first-past test n k e l m none = go (e - k) k (omega arith) none
   where
-    go : (left k : ℕ) → left + k ≡ e → ((i : ℕ) → k ≤ i → i < e → test i ≡ false) → firstFrom test n k ≡ firstFrom test n e
+    go : (left k : ℕ) → left + k ≡ e → ((i : ℕ) → k ≤ i → i < e → test i ≡ false)
+        → firstFrom test n k ≡ firstFrom test n e
     go zero k h none = let q : k ≡ e = omega arith in rw q
-    go (suc left) k h none = first-on test n k (omega arith) (none k (omega arith) (omega arith)) ∙ go left (k + 1) (omega arith) (λ i a. none i (omega arith))
+    go (suc left) k h none = first-on test n k (omega arith) (none k (omega arith) (omega arith))
+        ∙ go left (k + 1) (omega arith) (λ i a. none i (omega arith))
 
 -- two tests that say the same find the same
-pub first-same : (test other : ℕ → Bool) (n k : ℕ) → k ≤ n → ((i : ℕ) → i < n → test i ≡ other i) → firstFrom test n k ≡ firstFrom other n k
+pub first-same : (test other : ℕ → Bool) (n k : ℕ) → k ≤ n → ((i : ℕ) → i < n → test i ≡ other i)
+    → firstFrom test n k ≡ firstFrom other n k
 first-same test other n k l same =
     from (λ k m. m ≡ firstFrom other n k) test n
     (λ k l h. sym (first-here other n k (sym (same k l) ∙ h)))
@@ -100,4 +109,5 @@ some-named test a b i l m h = go (some test a b) refl
 
 -- it names none of them, and so not some
 pub none-some : (test : ℕ → Bool) (a b : ℕ) → a ≤ b → ((i : ℕ) → a ≤ i → i < b → test i ≡ false) → some test a b ≡ false
-none-some test a b l none = le-ltb _ b (omega (arith, first-past test b a b l (omega arith) none, first-none test b b (omega arith)))
+none-some test a b l none =
+    le-ltb _ b (omega (arith, first-past test b a b l (omega arith) none, first-none test b b (omega arith)))

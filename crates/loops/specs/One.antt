@@ -1,5 +1,5 @@
--- One contract, one answer. A contract of this library gives the answer and every lent buffer at exit, as one record, by an equation with a definition
--- of the inputs. Whatever two answers it allows are then the same.
+-- One contract, one answer. A contract of this library gives the answer and every lent buffer at exit, as one record,
+-- by an equation with a definition of the inputs. Whatever two answers it allows are then the same.
 use mathlib.Core.Path.{_≡_, sym, _∙_}
 
 -- what such a contract allows

@@ -19,15 +19,18 @@ part-length a e t h k = simp (length-take, length-drop) (omega arith)
 pub part-at : {A : Type 0} (a e : ℕ) (t : List A) (i : ℕ) (d : A) → i < e - a → getD (part a e t) i d ≡ getD t (a + i) d
 part-at a e t i d h = getD-take (e - a) (drop a t) i d h ∙ getD-drop a t i d
 
-pub onPart-length : {A : Type 0} (f : List A → List A) (a e : ℕ) (t : List A) → a ≤ e → e ≤ length t → ((s : List A) → length (f s) ≡ length s) → length (onPart f a e t) ≡ length t
+pub onPart-length : {A : Type 0} (f : List A → List A) (a e : ℕ) (t : List A) → a ≤ e → e ≤ length t
+    → ((s : List A) → length (f s) ≡ length s) → length (onPart f a e t) ≡ length t
 unfolding onPart
 onPart-length f a e t h k keep = simp (length-append, keep, length-take, length-drop) (omega arith)
 
 -- the part that was rewritten, taken out again
-pub onPart-part : {A : Type 0} (f : List A → List A) (a e : ℕ) (t : List A) → a ≤ e → e ≤ length t → length (f (part a e t)) ≡ e - a → part a e (onPart f a e t) ≡ f (part a e t)
+pub onPart-part : {A : Type 0} (f : List A → List A) (a e : ℕ) (t : List A) → a ≤ e → e ≤ length t
+    → length (f (part a e t)) ≡ e - a → part a e (onPart f a e t) ≡ f (part a e t)
 unfolding onPart
 onPart-part f a e t h k m =
-    rw (drop-at (take a t) (f (part a e t) ++ drop (e - a) (drop a t)) a (simp length-take (omega arith))) (take-at (f (part a e t)) (drop (e - a) (drop a t)) (e - a) m)
+    rw (drop-at (take a t) (f (part a e t) ++ drop (e - a) (drop a t)) a (simp length-take (omega arith)))
+    (take-at (f (part a e t)) (drop (e - a) (drop a t)) (e - a) m)
 
 -- ---- the places before the part, in it and after it
 
@@ -39,11 +42,13 @@ past xs ys p d h =
 taken : {A : Type 0} (a : ℕ) (t : List A) → a ≤ length t → length (take a t) ≡ a
 taken a t h = simp length-take (omega arith)
 
-pub onPart-before : {A : Type 0} (f : List A → List A) (a e : ℕ) (t : List A) (p : ℕ) (d : A) → a ≤ length t → p < a → getD (onPart f a e t) p d ≡ getD t p d
+pub onPart-before : {A : Type 0} (f : List A → List A) (a e : ℕ) (t : List A) (p : ℕ) (d : A) → a ≤ length t → p < a
+    → getD (onPart f a e t) p d ≡ getD t p d
 unfolding onPart
 onPart-before f a e t p d k l = List·getD-append (take a t) _ d p (omega (arith, taken a t k)) ∙ getD-take a t p d l
 
-pub onPart-within : {A : Type 0} (f : List A → List A) (a e : ℕ) (t : List A) (i : ℕ) (d : A) → a ≤ e → e ≤ length t → ((s : List A) → length (f s) ≡ length s) → i < e - a
+pub onPart-within : {A : Type 0} (f : List A → List A) (a e : ℕ) (t : List A) (i : ℕ) (d : A) → a ≤ e → e ≤ length t
+    → ((s : List A) → length (f s) ≡ length s) → i < e - a
     → getD (onPart f a e t) (a + i) d ≡ getD (f (part a e t)) i d
 unfolding onPart
 onPart-within f a e t i d h k keep l =
@@ -54,7 +59,8 @@ onPart-within f a e t i d h k keep l =
     ∙ ap (λ x. getD (f (part a e t) ++ drop (e - a) (drop a t)) x d) j
     ∙ List·getD-append (f (part a e t)) _ d i (omega arith)
 
-pub onPart-after : {A : Type 0} (f : List A → List A) (a e : ℕ) (t : List A) (p : ℕ) (d : A) → a ≤ e → e ≤ length t → ((s : List A) → length (f s) ≡ length s) → e ≤ p
+pub onPart-after : {A : Type 0} (f : List A → List A) (a e : ℕ) (t : List A) (p : ℕ) (d : A) → a ≤ e → e ≤ length t
+    → ((s : List A) → length (f s) ≡ length s) → e ≤ p
     → getD (onPart f a e t) p d ≡ getD t p d
 unfolding onPart
 onPart-after f a e t p d h k keep l =

@@ -1,6 +1,7 @@
--- Where the entries of a square matrix lie: column by column, so row i of column j of a matrix of order n stands at j * n + i.
--- A product of two variables is an unknown to `omega`. `placed` and `column` hand it the facts that an index, or the bounds of a
--- column's part, ask for; `place-one`, `apart` and `places` say that two places differ where the row or the column does.
+-- Where the entries of a square matrix lie: column by column, so row i of column j of a matrix of order n stands at j *
+-- n + i. A product of two variables is an unknown to `omega`. `placed` and `column` hand it the facts that an index, or
+-- the bounds of a column's part, ask for; `place-one`, `apart` and `places` say that two places differ where the row or
+-- the column does.
 use mathlib.Core.Path.{_≡_, ap}
 use native.Mathlib.Numerals.{add-one}
 use Prim.Native.Nat.{ℕ, suc, _+_, _*_, _<_, _≤_}
@@ -66,7 +67,8 @@ pub record Inside (a b c d i j : ℕ) : Type 0 where
   pub left : j < d
 
 -- a place outside a block is none of its places
-pub apart : {a b c d i j : ℕ} (n i' j' : ℕ) → i < n → i' < n → (Inside a b c d i j → ⊥) → Inside a b c d i' j' → place n i j ≢ place n i' j'
+pub apart : {a b c d i j : ℕ} (n i' j' : ℕ) → i < n → i' < n → (Inside a b c d i j → ⊥) → Inside a b c d i' j'
+    → place n i j ≢ place n i' j'
 apart {i = i} {j = j} n i' j' h k out at e =
     let q = place-one n i j i' j' h k e in
     out (omega arith)

@@ -23,7 +23,8 @@ portion done turn count k x = let y = until done turn k x in cond (eqb (count y)
 unfoldable pub portions : {A : Type 0} → (done : A → Bool) → (turn : A → A) → (count : A → ℕ) → (ks : List ℕ) → A
     → Portioned A
 portions done turn count [] x = parked x
-portions done turn count (k ∷ ks) x = elim (portion done turn count k x) [ parked y ↦ portions done turn count ks y | finished y ↦ finished y ]
+portions done turn count (k ∷ ks) x =
+    elim (portion done turn count k x) [ parked y ↦ portions done turn count ks y | finished y ↦ finished y ]
 
 unfoldable pub together : List ℕ → ℕ
 together [] = 0
@@ -58,13 +59,15 @@ module _ {A : Type 0} {done : A → Bool} {turn : A → A} {count : A → ℕ} (
   taken-up k m x h =
       let y = run k x in
       let sum : count x + (k + m) ≡ count y + m = omega arith in
-      rw (until-portions done turn k m x) (ap (λ z. cond (eqb (count (run m y)) z) (parked (run m y)) (finished (run m y))) sum)
+      rw (until-portions done turn k m x) (ap (λ z. cond (eqb (count (run m y)) z) (parked (run m y))
+      (finished (run m y))) sum)
 
   -- ---- several
 
   pub portions-one : (ks : List ℕ) (x : A) → portions done turn count ks x ≡ portioned (together ks) x
   unfolding portions together
-  portions-one [] x = sym (portion-parked 0 x (rw (until-out done turn x) (sym (add-zero (count x)))) ∙ ap parked (until-out done turn x))
+  portions-one [] x = sym (portion-parked 0 x (rw (until-out done turn x) (sym (add-zero (count x))))
+      ∙ ap parked (until-out done turn x))
   portions-one (k ∷ ks) x = go (eqb (count (run k x)) (count x + k)) refl (portions-one ks (run k x))
     where
       next : Portioned A → Portioned A
@@ -78,15 +81,18 @@ module _ {A : Type 0} {done : A → Bool} {turn : A → A} {count : A → ℕ} (
           ap next (portion-parked k x all) ∙ later ∙ sym (taken-up k (together ks) x all)
       go false e later =
           let short = eqb-false (count (run k x)) (count x + k) e in
-          let same : run (k + together ks) x ≡ run k x = run-settled counted k (k + together ks) x (short-done counted k x short) (omega arith) in
+          let same : run (k + together ks) x ≡ run k x =
+          run-settled counted k (k + together ks) x (short-done counted k x short) (omega arith) in
           ap next (portion-finished k x short)
-          ∙ sym (portion-finished (k + together ks) x (λ h. let q = ap count same in omega (arith, count-most counted k x)) ∙ ap finished same)
+          ∙ sym (portion-finished (k + together ks) x (λ h. let q = ap count same in
+          omega (arith, count-most counted k x)) ∙ ap finished same)
 
   -- What is parked is the run itself after so many turns, and all of them have counted.
   pub parked-run : (ks : List ℕ) (x y : A) → portions done turn count ks x ≡ parked y
       → (y ≡ until done turn (together ks) x) × (count y ≡ count x + together ks)
   unfolding portion
-  parked-run ks x y h = go (eqb (count (run (together ks) x)) (count x + together ks)) refl (sym (portions-one ks x) ∙ h)
+  parked-run ks x y h =
+      go (eqb (count (run (together ks) x)) (count x + together ks)) refl (sym (portions-one ks x) ∙ h)
     where
       go : (d : Bool) → eqb (count (run (together ks) x)) (count x + together ks) ≡ d
           → cond d (parked (run (together ks) x)) (finished (run (together ks) x)) ≡ parked y

@@ -1,6 +1,7 @@
--- Arithmetic of f64 as the definitions write it. A circle stands for one operation of IEEE 754, rounded once to the nearest value of binary64.
--- Nothing is fused and nothing is reordered: a ⊗ b ⊕ c is a product, rounded, and then a sum, rounded.
--- Each name is an `abbrev`, so a goal shows the kit's own operation, and what the code computes meets it with no law.
+-- Arithmetic of f64 as the definitions write it. A circle stands for one operation of IEEE 754, rounded once to the
+-- nearest value of binary64. Nothing is fused and nothing is reordered: a ⊗ b ⊕ c is a product, rounded, and then a
+-- sum, rounded. Each name is an `abbrev`, so a goal shows the kit's own operation, and what the code computes meets it
+-- with no law.
 use Prim.Native.Nat.{ℕ}
 use mathlib.Core.List.{List}
 use lib.ListN.{getD}

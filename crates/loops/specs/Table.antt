@@ -1,4 +1,5 @@
--- A list told place by place: `table n f` holds f 0, f 1, .., f (n - 1). What a loop writes into a lent list of n places is one, whatever stood there.
+-- A list told place by place: `table n f` holds f 0, f 1, .., f (n - 1). What a loop writes into a lent list of n
+-- places is one, whatever stood there.
 use mathlib.Core.Path.{_≡_, refl, sym, ap, _∙_}
 use mathlib.Core.List.{List, [], _∷_, _++_}
 use Prim.Native.Nat.{ℕ, zero, suc, _+_, _-_, _<_}
@@ -29,8 +30,10 @@ table-at (suc n) f i d h = go (decLt i n) (table-at n f i d)
         ap (λ k. getD (table n f ++ f n ∷ []) k d) e ∙ getD-append-add (table n f) (f n ∷ []) 0 d ∙ ap f q
 
 -- a list that holds that
-pub table-of : {A : Type 0} (n : ℕ) (f : ℕ → A) (t : List A) (d : A) → length t ≡ n → ((i : ℕ) → i < n → getD t i d ≡ f i) → t ≡ table n f
-table-of n f t d e h = ext-getD d t (table n f) (e ∙ sym (table-length n f)) (λ i l. h i (omega arith) ∙ sym (table-at n f i d (omega arith)))
+pub table-of : {A : Type 0} (n : ℕ) (f : ℕ → A) (t : List A) (d : A) → length t ≡ n
+    → ((i : ℕ) → i < n → getD t i d ≡ f i) → t ≡ table n f
+table-of n f t d e h = ext-getD d t (table n f) (e ∙ sym (table-length n f)) (λ i l. h i (omega arith)
+    ∙ sym (table-at n f i d (omega arith)))
 
 -- a list is the table of what it holds
 pub table-self : {A : Type 0} (t : List A) (d : A) → table (length t) (λ i. getD t i d) ≡ t

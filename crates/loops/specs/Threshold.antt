@@ -39,9 +39,11 @@ module _ {A : Type 0} {done : A → Bool} {turn : A → A} {count : A → ℕ} (
           upto b (no l) m = let last : b ≡ suc most = omega arith in rw last (eqb-true _ _ e)
       go all false e =
           let one-more : suc most ≡ most + 1 = omega arith in
-          let short : (count (run (most + 1) x) ≡ count x + (most + 1)) → ⊥ = λ h. eqb-false (count (run (most + 1) x)) (most + 1) (rw one-more at e) (omega arith) in
+          let short : (count (run (most + 1) x) ≡ count x + (most + 1)) → ⊥ =
+          λ h. eqb-false (count (run (most + 1) x)) (most + 1) (rw one-more at e) (omega arith) in
           let ended : done (run (most + 1) x) ≡ true = short-done counted (most + 1) x short in
-          let same : (b : ℕ) → most < b → run b x ≡ run (most + 1) x = λ b l. run-settled counted (most + 1) b x ended (omega arith) in
+          let same : (b : ℕ) → most < b → run b x ≡ run (most + 1) x =
+          λ b l. run-settled counted (most + 1) b x ended (omega arith) in
           let here : count (run most x) ≡ count x + most = (let q = all most (omega arith) in omega arith) in
           let last : count (run (most + 1) x) ≡ most = (let q = count-stays counted most x here short in omega arith) in
           from most (omega arith) all (λ b l. ap count (same b l) ∙ last) (run (most + 1) x) same

@@ -35,10 +35,12 @@ column-length n g j a b t = range-length _ _ _ _ (λ i s. simp length-set)
 column-frame : (n : ℕ) (g : Rule) (j a b : ℕ) (t : List Float) (p : ℕ) → ((i : ℕ) → a ≤ i → i < b → p ≢ place n i j) → range (atEntry n g j) a b t ! p ≡ t ! p
 column-frame n g j a b t p out = range-frame _ _ _ _ _ _ (λ i s h k. getD-set-other s _ _ _ nan (out i h k))
 
-column-at : (n : ℕ) (g : Rule) (j a b : ℕ) (t : List Float) (i : ℕ) → b ≤ n → a ≤ i → i < b → place n i j < length t → range (atEntry n g j) a b t ! place n i j ≡ g i j (t ! place n i j)
+column-at : (n : ℕ) (g : Rule) (j a b : ℕ) (t : List Float) (i : ℕ) → b ≤ n → a ≤ i → i < b → place n i j < length t
+    → range (atEntry n g j) a b t ! place n i j ≡ g i j (t ! place n i j)
 column-at n g j a b t i h k l m =
     let here : length (range (atEntry n g j) a i t) ≡ length t = column-length n g j a i t in
-    range-at (atEntry n g j) a b t i (place n i j) nan k l (λ i' s u v w. getD-set-other s _ _ _ nan (places n i j i' j (omega arith) (omega arith) (λ e f. omega arith)))
+    range-at (atEntry n g j) a b t i (place n i j) nan k l (λ i' s u v w. getD-set-other s _ _ _ nan
+    (places n i j i' j (omega arith) (omega arith) (λ e f. omega arith)))
     ∙ getD-set-same (range (atEntry n g j) a i t) _ _ nan (omega arith)
     ∙ ap (g i j) (column-frame n g j a i t (place n i j) (λ i' u v. places n i j i' j (omega arith) (omega arith) (λ e f. omega arith)))
 
@@ -49,13 +51,15 @@ unfolding inBlock
 inBlock-length n r0 r1 c0 c1 g t = range-length _ _ _ _ (λ j s. column-length n g j r0 r1 s)
 
 -- an entry outside is left alone
-pub inBlock-frame : (n r0 r1 c0 c1 : ℕ) (g : Rule) (t : List Float) (i j : ℕ) → r1 ≤ n → i < n → (Inside r0 r1 c0 c1 i j → ⊥) → inBlock n r0 r1 c0 c1 g t ! place n i j ≡ t ! place n i j
+pub inBlock-frame : (n r0 r1 c0 c1 : ℕ) (g : Rule) (t : List Float) (i j : ℕ) → r1 ≤ n → i < n → (Inside r0 r1 c0 c1 i j → ⊥)
+    → inBlock n r0 r1 c0 c1 g t ! place n i j ≡ t ! place n i j
 unfolding inBlock
 inBlock-frame n r0 r1 c0 c1 g t i j h l out =
     range-frame _ _ _ _ _ _ (λ j' s u v. column-frame n g j' r0 r1 s _ (λ i' x y. apart n i' j' l (omega arith) out (omega arith)))
 
 -- an entry inside is rewritten once
-pub inBlock-at : (n r0 r1 c0 c1 : ℕ) (g : Rule) (t : List Float) (i j : ℕ) → length t ≡ n * n → r1 ≤ n → c1 ≤ n → Inside r0 r1 c0 c1 i j → inBlock n r0 r1 c0 c1 g t ! place n i j ≡ g i j (t ! place n i j)
+pub inBlock-at : (n r0 r1 c0 c1 : ℕ) (g : Rule) (t : List Float) (i j : ℕ) → length t ≡ n * n → r1 ≤ n → c1 ≤ n → Inside r0 r1 c0 c1 i j
+    → inBlock n r0 r1 c0 c1 g t ! place n i j ≡ g i j (t ! place n i j)
 unfolding inBlock
 inBlock-at n r0 r1 c0 c1 g t i j size h k at =
     let before : length (inBlock n r0 r1 c0 j g t) ≡ length t = inBlock-length n r0 r1 c0 j g t in
@@ -66,7 +70,8 @@ inBlock-at n r0 r1 c0 c1 g t i j size h k at =
     ∙ ap (g i j) (inBlock-frame n r0 r1 c0 j g t i j h (omega arith) (λ o. omega arith))
 
 -- rules that agree in the block
-pub inBlock-same : (n r0 r1 c0 c1 : ℕ) (g h : Rule) (t : List Float) → ((i j : ℕ) (x : Float) → Inside r0 r1 c0 c1 i j → g i j x ≡ h i j x) → inBlock n r0 r1 c0 c1 g t ≡ inBlock n r0 r1 c0 c1 h t
+pub inBlock-same : (n r0 r1 c0 c1 : ℕ) (g h : Rule) (t : List Float) → ((i j : ℕ) (x : Float) → Inside r0 r1 c0 c1 i j → g i j x ≡ h i j x)
+    → inBlock n r0 r1 c0 c1 g t ≡ inBlock n r0 r1 c0 c1 h t
 unfolding inBlock
 inBlock-same n r0 r1 c0 c1 g h t same =
     range-same _ _ _ _ _ (λ j s a b. range-same _ _ _ _ _ (λ i u c d. ap (set u (place n i j)) (same i j (u ! place n i j) (omega arith))))
@@ -107,17 +112,21 @@ inBlock-is n r0 r1 c0 c1 g t s size length-s h k inside outside =
 
 module _ (n : ℕ) (g : Rule) (t : List Float) (size : length t ≡ n * n) where
   -- rows from r0 to r1, then from r1 to r2
-  pub inBlock-rows : (r0 r1 r2 c0 c1 : ℕ) → r0 ≤ r1 → r1 ≤ r2 → r2 ≤ n → c1 ≤ n → inBlock n r1 r2 c0 c1 g (inBlock n r0 r1 c0 c1 g t) ≡ inBlock n r0 r2 c0 c1 g t
+  pub inBlock-rows : (r0 r1 r2 c0 c1 : ℕ) → r0 ≤ r1 → r1 ≤ r2 → r2 ≤ n → c1 ≤ n
+      → inBlock n r1 r2 c0 c1 g (inBlock n r0 r1 c0 c1 g t) ≡ inBlock n r0 r2 c0 c1 g t
   inBlock-rows r0 r1 r2 c0 c1 h k l m =
       let s = inBlock n r0 r1 c0 c1 g t in
       let length-s : length s ≡ n * n = inBlock-length n r0 r1 c0 c1 g t ∙ size in
       inBlock-is n r0 r2 c0 c1 g t (inBlock n r1 r2 c0 c1 g s) size (inBlock-length n r1 r2 c0 c1 g s ∙ length-s) l m
       (λ i j a b at. inner i j a (decLt i r1) at)
-      (λ i j a b out. inBlock-frame n r1 r2 c0 c1 g s i j l a (λ o. out (omega arith)) ∙ inBlock-frame n r0 r1 c0 c1 g t i j (omega arith) a (λ o. out (omega arith)))
+      (λ i j a b out. inBlock-frame n r1 r2 c0 c1 g s i j l a (λ o. out (omega arith))
+      ∙ inBlock-frame n r0 r1 c0 c1 g t i j (omega arith) a (λ o. out (omega arith)))
     where
-      inner : (i j : ℕ) → i < n → Dec (i < r1) → Inside r0 r2 c0 c1 i j → inBlock n r1 r2 c0 c1 g (inBlock n r0 r1 c0 c1 g t) ! place n i j ≡ g i j (t ! place n i j)
+      inner : (i j : ℕ) → i < n → Dec (i < r1) → Inside r0 r2 c0 c1 i j
+          → inBlock n r1 r2 c0 c1 g (inBlock n r0 r1 c0 c1 g t) ! place n i j ≡ g i j (t ! place n i j)
       inner i j a (yes x) at =
-          inBlock-frame n r1 r2 c0 c1 g (inBlock n r0 r1 c0 c1 g t) i j l a (λ o. omega arith) ∙ inBlock-at n r0 r1 c0 c1 g t i j size (omega arith) m (omega arith)
+          inBlock-frame n r1 r2 c0 c1 g (inBlock n r0 r1 c0 c1 g t) i j l a (λ o. omega arith)
+          ∙ inBlock-at n r0 r1 c0 c1 g t i j size (omega arith) m (omega arith)
       inner i j a (no x) at =
           inBlock-at n r1 r2 c0 c1 g (inBlock n r0 r1 c0 c1 g t) i j (inBlock-length n r0 r1 c0 c1 g t ∙ size) l m (omega arith)
           ∙ ap (g i j) (inBlock-frame n r0 r1 c0 c1 g t i j (omega arith) a (λ o. omega arith))
@@ -132,7 +141,8 @@ unfolding inBlock
 inBlock-no-columns n r0 r1 c g t = range-none _ _ _
 
 -- one column more
-pub inBlock-column : (n r0 r1 c0 j : ℕ) (g : Rule) (t : List Float) → c0 ≤ j → inBlock n r0 r1 c0 (j + 1) g t ≡ range (atEntry n g j) r0 r1 (inBlock n r0 r1 c0 j g t)
+pub inBlock-column : (n r0 r1 c0 j : ℕ) (g : Rule) (t : List Float) → c0 ≤ j
+    → inBlock n r0 r1 c0 (j + 1) g t ≡ range (atEntry n g j) r0 r1 (inBlock n r0 r1 c0 j g t)
 unfolding inBlock
 inBlock-column n r0 r1 c0 j g t h = range-more _ _ _ _ h
 
@@ -140,11 +150,13 @@ inBlock-column n r0 r1 c0 j g t h = range-more _ _ _ _ h
 pub inBlock-alone : (n r0 r1 j : ℕ) (g : Rule) (t : List Float) → inBlock n r0 r1 j (j + 1) g t ≡ range (atEntry n g j) r0 r1 t
 inBlock-alone n r0 r1 j g t = inBlock-column n r0 r1 j j g t (omega arith) ∙ ap (range (atEntry n g j) r0 r1) (inBlock-no-columns n r0 r1 j g t)
 
-pub inBlock-behind : (n r0 r1 c0 j : ℕ) (g : Rule) (t : List Float) → c0 ≤ j → inBlock n r0 r1 j (j + 1) g (inBlock n r0 r1 c0 j g t) ≡ inBlock n r0 r1 c0 (j + 1) g t
+pub inBlock-behind : (n r0 r1 c0 j : ℕ) (g : Rule) (t : List Float) → c0 ≤ j
+    → inBlock n r0 r1 j (j + 1) g (inBlock n r0 r1 c0 j g t) ≡ inBlock n r0 r1 c0 (j + 1) g t
 inBlock-behind n r0 r1 c0 j g t h = inBlock-alone n r0 r1 j g (inBlock n r0 r1 c0 j g t) ∙ sym (inBlock-column n r0 r1 c0 j g t h)
 
 -- where the loop's test over the columns has failed
-pub inBlock-columns-done : (n r0 r1 c0 c1 j : ℕ) (g : Rule) (t : List Float) → c0 ≤ j → j ≤ max c0 c1 → c1 ≤ j → inBlock n r0 r1 c0 j g t ≡ inBlock n r0 r1 c0 c1 g t
+pub inBlock-columns-done : (n r0 r1 c0 c1 j : ℕ) (g : Rule) (t : List Float) → c0 ≤ j → j ≤ max c0 c1 → c1 ≤ j
+    → inBlock n r0 r1 c0 j g t ≡ inBlock n r0 r1 c0 c1 g t
 unfolding inBlock
 inBlock-columns-done n r0 r1 c0 c1 j g t h k l = range-done _ _ _ _ _ h k l
 

@@ -53,7 +53,8 @@ pub record Rewriting (k : ℕ) (g : ℕ → Float → Float) (t₀ : List Float)
 pub rewriting-none : (k : ℕ) (g : ℕ → Float → Float) (t : List Float) → k ≤ length t → Rewriting k g t 0 t
 rewriting-none k g t h = record { upto = omega arith; room = h; size = refl; done = sym (eachTo-none g t) }
 
-pub rewriting-more : {k : ℕ} {g : ℕ → Float → Float} {t₀ : List Float} {i : ℕ} {t : List Float} → Rewriting k g t₀ i t → i < k → Rewriting k g t₀ (i + 1) (set t i (g i (t ! i)))
+pub rewriting-more : {k : ℕ} {g : ℕ → Float → Float} {t₀ : List Float} {i : ℕ} {t : List Float} → Rewriting k g t₀ i t → i < k
+    → Rewriting k g t₀ (i + 1) (set t i (g i (t ! i)))
 rewriting-more {k} {g} {t₀} {i} {t} d h = record {
   upto = omega arith;
   room = d .room;

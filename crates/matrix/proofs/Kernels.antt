@@ -17,7 +17,8 @@ use Rattle.matrix.proofs.Fitting.{Fits, fits, fitting}
 use Rattle.matrix.proofs.Blocks.{decInside, inBlock-length, inBlock-frame, inBlock-at}
 
 -- it keeps what the loops keep where the block lies in the matrix
-pub onEntries-hold : (P : List Float → Type 0) (n r0 r1 c0 c1 : ℕ) (g : Rule) (t : List Float) → (Fits n (length t) r1 c1 → P (inBlock n r0 r1 c0 c1 g t)) → P t → P (onEntries n r0 r1 c0 c1 g t)
+pub onEntries-hold : (P : List Float → Type 0) (n r0 r1 c0 c1 : ℕ) (g : Rule) (t : List Float) → (Fits n (length t) r1 c1 → P (inBlock n r0 r1 c0 c1 g t)) → P t
+    → P (onEntries n r0 r1 c0 c1 g t)
 unfolding onEntries
 onEntries-hold P n r0 r1 c0 c1 g t h k =
     cond-hold P (blockFits n (length t) r1 c1) (inBlock n r0 r1 c0 c1 g t) t (λ e. h (fits n (length t) r1 c1 e)) k
@@ -27,22 +28,26 @@ onEntries-length n r0 r1 c0 c1 g t =
     onEntries-hold (λ s. length s ≡ length t) n r0 r1 c0 c1 g t (λ f. inBlock-length n r0 r1 c0 c1 g t) refl
 
 -- the frame: an entry outside the block
-pub onEntries-frame : (n r0 r1 c0 c1 : ℕ) (g : Rule) (t : List Float) (i j : ℕ) → i < n → (Inside r0 r1 c0 c1 i j → ⊥) → onEntries n r0 r1 c0 c1 g t ! place n i j ≡ t ! place n i j
+pub onEntries-frame : (n r0 r1 c0 c1 : ℕ) (g : Rule) (t : List Float) (i j : ℕ) → i < n → (Inside r0 r1 c0 c1 i j → ⊥)
+    → onEntries n r0 r1 c0 c1 g t ! place n i j ≡ t ! place n i j
 onEntries-frame n r0 r1 c0 c1 g t i j l out =
     onEntries-hold (λ s. s ! place n i j ≡ t ! place n i j) n r0 r1 c0 c1 g t (λ f. inBlock-frame n r0 r1 c0 c1 g t i j (f .inRows) l out) refl
 
 -- where the block lies in the matrix it is the loops
-pub onEntries-does : (n r0 r1 c0 c1 : ℕ) (g : Rule) (t : List Float) → n ≤ 64 → length t ≡ n * n → r1 ≤ n → c1 ≤ n → onEntries n r0 r1 c0 c1 g t ≡ inBlock n r0 r1 c0 c1 g t
+pub onEntries-does : (n r0 r1 c0 c1 : ℕ) (g : Rule) (t : List Float) → n ≤ 64 → length t ≡ n * n → r1 ≤ n → c1 ≤ n
+    → onEntries n r0 r1 c0 c1 g t ≡ inBlock n r0 r1 c0 c1 g t
 unfolding onEntries
 onEntries-does n r0 r1 c0 c1 g t h k l m = rw (fitting n (length t) r1 c1 h k l m)
 
 -- the value: an entry inside
-pub onEntries-at : (n r0 r1 c0 c1 : ℕ) (g : Rule) (t : List Float) (i j : ℕ) → n ≤ 64 → length t ≡ n * n → r1 ≤ n → c1 ≤ n → Inside r0 r1 c0 c1 i j → onEntries n r0 r1 c0 c1 g t ! place n i j ≡ g i j (t ! place n i j)
+pub onEntries-at : (n r0 r1 c0 c1 : ℕ) (g : Rule) (t : List Float) (i j : ℕ) → n ≤ 64 → length t ≡ n * n → r1 ≤ n → c1 ≤ n → Inside r0 r1 c0 c1 i j
+    → onEntries n r0 r1 c0 c1 g t ! place n i j ≡ g i j (t ! place n i j)
 onEntries-at n r0 r1 c0 c1 g t i j h k l m at =
     rw (onEntries-does n r0 r1 c0 c1 g t h k l m) (inBlock-at n r0 r1 c0 c1 g t i j k l m at)
 
 -- an entry that two matrices have in common, and that two kernels reach or leave alike, they also have in common afterwards
-pub onEntries-alike : (n r0 r1 c0 c1 d0 d1 : ℕ) (g h : Rule) (t s : List Float) (i j : ℕ) → n ≤ 64 → length t ≡ n * n → length s ≡ n * n → r1 ≤ n → c1 ≤ n → d1 ≤ n → i < n
+pub onEntries-alike : (n r0 r1 c0 c1 d0 d1 : ℕ) (g h : Rule) (t s : List Float) (i j : ℕ) → n ≤ 64 → length t ≡ n * n → length s ≡ n * n → r1 ≤ n → c1 ≤ n
+    → d1 ≤ n → i < n
     → (Inside r0 r1 c0 c1 i j → Inside r0 r1 d0 d1 i j) → (Inside r0 r1 d0 d1 i j → Inside r0 r1 c0 c1 i j)
     → t ! place n i j ≡ s ! place n i j → g i j (t ! place n i j) ≡ h i j (s ! place n i j)
     → onEntries n r0 r1 c0 c1 g t ! place n i j ≡ onEntries n r0 r1 d0 d1 h s ! place n i j
@@ -67,7 +72,8 @@ pub putOf-length : (n i j : ℕ) (x : Float) (t : List Float) → length (putOf 
 unfolding putOf
 putOf-length n i j x t = onEntries-length _ _ _ _ _ _ _
 
-pub putOf-frame : (n i j : ℕ) (x : Float) (t : List Float) (i' j' : ℕ) → i' < n → (Inside i (i + 1) j (j + 1) i' j' → ⊥) → putOf n i j x t ! place n i' j' ≡ t ! place n i' j'
+pub putOf-frame : (n i j : ℕ) (x : Float) (t : List Float) (i' j' : ℕ) → i' < n → (Inside i (i + 1) j (j + 1) i' j' → ⊥)
+    → putOf n i j x t ! place n i' j' ≡ t ! place n i' j'
 unfolding putOf
 putOf-frame n i j x t i' j' l out = onEntries-frame _ _ _ _ _ _ _ i' j' l out
 

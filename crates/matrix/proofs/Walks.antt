@@ -43,7 +43,8 @@ down-more {n} {r0} {r1} {c0} {c1} {g} {t₀} {j} d h e =
     let kept : length (inBlock n r0 r1 c0 (j + 1) g t₀) ≡ length t₀ = inBlock-length n r0 r1 c0 (j + 1) g t₀ in
     record { fits = d .fits; from = omega arith; upto = omega arith; size = rw e (kept ∙ d .fits .size); done = e }
 
-pub down-done : {n r0 r1 c0 c1 : ℕ} {g : Rule} {t₀ : List Float} {j : ℕ} {t : List Float} → Down n r0 r1 c0 c1 g t₀ j t → c1 ≤ j → t ≡ onEntries n r0 r1 c0 c1 g t₀
+pub down-done : {n r0 r1 c0 c1 : ℕ} {g : Rule} {t₀ : List Float} {j : ℕ} {t : List Float} → Down n r0 r1 c0 c1 g t₀ j t → c1 ≤ j
+    → t ≡ onEntries n r0 r1 c0 c1 g t₀
 down-done {n} {r0} {r1} {c0} {c1} {g} {t₀} {j} d h =
     let f = d .fits in
     d .done

@@ -22,7 +22,8 @@ unfoldable pub inBlock : (n r0 r1 c0 c1 : ℕ) → Rule → (t : List Float) →
 inBlock n r0 r1 c0 c1 g t = range (λ j. range (atEntry n g j) r0 r1) c0 c1 t
 
 -- The same where that block lies in the matrix; where it does not, nothing is done.
--- What g reads of the matrix, it reads of the matrix as it was: so the order in which the entries are taken changes nothing.
+-- What g reads of the matrix, it reads of the matrix as it was: so the order in which the entries are taken changes
+-- nothing.
 unfoldable pub onEntries : (n r0 r1 c0 c1 : ℕ) → Rule → (t : List Float) → List Float
 onEntries n r0 r1 c0 c1 g t = cond (blockFits n (length t) r1 c1) (inBlock n r0 r1 c0 c1 g t) t
 

@@ -15,8 +15,9 @@ use Rattle.matrix.specs.Fits.{blockFits}
 unfoldable pub along : (a : List Float) → (n c0 : ℕ) → (t : List Float) → (i : ℕ) → Float
 along a n c0 t i = bare (length a) (λ j. (t ! place n i (c0 + j)) ⊗ (a ! j))
 
--- The first `rows` rows of those columns times a, put into the first places of w. What stood there is not read. Nothing is done where the
--- rows or the columns do not lie in the matrix, or w is shorter.
+-- The first `rows` rows of those columns times a, put into the first places of w. What stood there is not read. Nothing
+-- is done where the rows or the columns do not lie in the matrix, or w is shorter.
 unfoldable pub mulTo : (a : List Float) → (n rows c0 : ℕ) → (t w : List Float) → List Float
 mulTo a n rows c0 t w =
-    cond (blockFits n (length t) rows (c0 + length a) && leb rows (length w)) (eachTo rows (λ i _. along a n c0 t i) w) w
+    cond (blockFits n (length t) rows (c0 + length a) && leb rows (length w))
+    (eachTo rows (λ i _. along a n c0 t i) w) w

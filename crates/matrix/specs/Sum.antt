@@ -1,5 +1,6 @@
 -- The two orders in which a sum of k terms is taken; the term at i is f i (docs/SUMS.md, section 2).
--- Which of the two a dot product takes goes by the type in the Rust: `lanes` where the length is known at run time, `bare` where it is 2 or 3 by the type.
+-- Which of the two a dot product takes goes by the type in the Rust: `lanes` where the length is known at run time,
+-- `bare` where it is 2 or 3 by the type.
 use Prim.Native.Nat.{ℕ, zero, suc, _+_, _*_, _/_}
 use lib.Ieee.{Float}
 use Rattle.loops.specs.Constants.{zero as zeroF}

@@ -1,5 +1,5 @@
--- Dot product, norm, scaling, filling, copying and largest magnitude of a list of numbers: a column, a part of one, or a whole matrix column by column
--- (docs/SUMS.md, 2.1 to 2.7).
+-- Dot product, norm, scaling, filling, copying and largest magnitude of a list of numbers: a column, a part of one, or
+-- a whole matrix column by column (docs/SUMS.md, 2.1 to 2.7).
 use Prim.Native.Nat.{ℕ}
 use mathlib.Core.Bool.{cond}
 use mathlib.Core.List.{List, [], _∷_}
@@ -63,7 +63,8 @@ unscaled x t = each (λ e. e ⊘ x) t
 unfoldable pub normalized : Order → List Float → List Float
 normalized sum c = unscaled (normOf sum c) c
 
--- the one held unless it is not at least the new one: so a NaN that is held gives way, and one that comes stays until the next number
+-- the one held unless it is not at least the new one: so a NaN that is held gives way, and one that comes stays until
+-- the next number
 abbrev pub larger : Float → Float → Float
 larger held new = cond (le new held) held new
 

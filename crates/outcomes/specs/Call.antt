@@ -1,4 +1,5 @@
--- A call as a caller makes it, and all that comes of it: what is answered, and what the lent memory holds afterwards. Every f64 is its pattern.
+-- A call as a caller makes it, and all that comes of it: what is answered, and what the lent memory holds afterwards.
+-- Every f64 is its pattern.
 use Prim.Native.Nat.{ℕ, _*_}
 use mathlib.Core.Bool.{true}
 use mathlib.Core.List.{List, [], _∷_}
@@ -71,7 +72,8 @@ answerOf (Decompose n tolerance budget m) =
     let square = ofPatterns (lent (n * n)) in
     let o = decompositionOf asked budget (ofPatterns m) (pair square square) (ofPatterns (lent (2 * n))) in
     answer (decomposes (o .answer)) (shown (o .pair .t) ∷ shown (o .pair .q) ∷ shown (o .work) ∷ [])
-answerOf (Real n t) = let r = realRead n (ofPatterns t) (ofPatterns (lent n)) in answer (reads (r .answer)) (shown (r .values) ∷ [])
+answerOf (Real n t) =
+    let r = realRead n (ofPatterns t) (ofPatterns (lent n)) in answer (reads (r .answer)) (shown (r .values) ∷ [])
 answerOf (Complex n t) =
     let r = complexRead n (ofPatterns t) (ofPatterns (lent n)) (ofPatterns (lent n)) in
     answer (reads (r .answer)) (shown (r .re) ∷ shown (r .im) ∷ [])

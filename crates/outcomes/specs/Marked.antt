@@ -1,6 +1,7 @@
--- Document 01's items a to n, in its words: one table of calls with all that comes of each, under one statement that the checker evaluates. T, Q and the
--- counts were computed by the plain model of the Rust, oracle/src/model.rs; the refusals and what they leave behind are document 01's.
--- Each item is evaluated by itself, so that an error names it. A matrix lies column by column.
+-- Document 01's items a to n, in its words: one table of calls with all that comes of each, under one statement that
+-- the checker evaluates. T, Q and the counts were computed by the plain model of the Rust, oracle/src/model.rs; the
+-- refusals and what they leave behind are document 01's. Each item is evaluated by itself, so that an error names it. A
+-- matrix lies column by column.
 use mathlib.Core.Path.{_≡_, refl, sym, ap, _∙_}
 use Prim.Native.Nat.{ℕ, _*_}
 use mathlib.Core.List.{List, [], _∷_, _++_, map, map-append}
@@ -107,7 +108,10 @@ pub record Holds (lines : List Line) : Type 0 where
 
 infixl 5 _then_
 _then_ : {x y : List Line} → Holds x → Holds y → Holds (x ++ y)
-_then_ {x} {y} h k = record { all = map-append _ x y ∙ ap (λ l. l ++ map (λ x. answerOf (x .call)) y) (h .all) ∙ ap (λ l. map (λ x. x .answer) x ++ l) (k .all) ∙ sym (map-append _ x y) }
+_then_ {x} {y} h k = record {
+  all = map-append _ x y ∙ ap (λ l. l ++ map (λ x. answerOf (x .call)) y) (h .all)
+      ∙ ap (λ l. map (λ x. x .answer) x ++ l) (k .all) ∙ sym (map-append _ x y);
+}
 
 unfoldable openedMarked : Unit {0}
 unfolding openedDecomposition openedReaders copies lent refused decomposes reads answerOf
@@ -147,7 +151,8 @@ c-holds = record { all = refl }
 d : List Line
 d = let values = oneBits ∷ twoBits ∷ fourBits ∷ [] in
     let t = diagonal values in
-    line (Decompose 3 usual 1 t) (Passes 0) (left 3 t (identity 3)) ∷ line (Real 3 t) Read (values ∷ []) ∷ line (Complex 3 t) Read (values ∷ zeros 3 ∷ []) ∷ []
+    line (Decompose 3 usual 1 t) (Passes 0) (left 3 t (identity 3)) ∷ line (Real 3 t) Read (values ∷ [])
+    ∷ line (Complex 3 t) Read (values ∷ zeros 3 ∷ []) ∷ []
 
 d-holds : Holds d
 unfolding openedMarked d
@@ -155,7 +160,8 @@ d-holds = record { all = refl }
 
 -- J then 2 on the diagonal: passes 0, accepted at budget 1
 e : List Line
-e = line (Decompose 3 usual 1 (thenTwo 0)) (Passes 0) (left 3 (thenTwo minusZero) (diagonal (oneBits ∷ oneBits ∷ minusOneBits ∷ []))) ∷ []
+e = line (Decompose 3 usual 1 (thenTwo 0)) (Passes 0)
+    (left 3 (thenTwo minusZero) (diagonal (oneBits ∷ oneBits ∷ minusOneBits ∷ []))) ∷ []
 
 e-holds : Holds e
 unfolding openedMarked e
@@ -164,7 +170,8 @@ e-holds = record { all = refl }
 -- J twice, order 4: budget 1 gives 7; budget 2 accepts, passes 1
 f : List Line
 f = line (Decompose 4 usual 1 (twice 0)) (Refused 7 0 0) (nans 4)
-    ∷ line (Decompose 4 usual 2 (twice 0)) (Passes 1) (left 4 (twice minusZero) (diagonal (oneBits ∷ oneBits ∷ minusOneBits ∷ minusOneBits ∷ []))) ∷ []
+    ∷ line (Decompose 4 usual 2 (twice 0)) (Passes 1)
+    (left 4 (twice minusZero) (diagonal (oneBits ∷ oneBits ∷ minusOneBits ∷ minusOneBits ∷ []))) ∷ []
 
 f-holds : Holds f
 unfolding openedMarked f
@@ -189,7 +196,8 @@ h-holds = record { all = refl }
 
 -- order 65 gives 2; order 0 gives 1
 i : List Line
-i = line (Decompose 65 usual 1 (zeros (65 * 65))) (Refused 2 0 0) (untouched 65) ∷ line (Decompose 0 usual 1 []) (Refused 1 0 0) (untouched 0) ∷ []
+i = line (Decompose 65 usual 1 (zeros (65 * 65))) (Refused 2 0 0) (untouched 65)
+    ∷ line (Decompose 0 usual 1 []) (Refused 1 0 0) (untouched 0) ∷ []
 
 i-holds : Holds i
 unfolding openedMarked i
@@ -221,7 +229,8 @@ l-holds = record { all = refl }
 
 -- rows (1 0), (2^700 1): T all zeros, accepted
 m : List Line
-m = line (Decompose 2 usual 1 (oneBits ∷ huge ∷ 0 ∷ oneBits ∷ [])) (Passes 0) (left 2 (zeros 4) (0 ∷ 0 ∷ minusZero ∷ 0 ∷ [])) ∷ []
+m = line (Decompose 2 usual 1 (oneBits ∷ huge ∷ 0 ∷ oneBits ∷ [])) (Passes 0)
+    (left 2 (zeros 4) (0 ∷ 0 ∷ minusZero ∷ 0 ∷ [])) ∷ []
 
 m-holds : Holds m
 unfolding openedMarked m
@@ -229,7 +238,8 @@ m-holds = record { all = refl }
 
 -- reader, order 3, both entries below the diagonal 1, rest 0: 9 at 2 1
 n : List Line
-n = line (Real 3 below) (Refused 9 2 1) (lent 3 ∷ []) ∷ line (Complex 3 below) (Refused 9 2 1) (lent 3 ∷ lent 3 ∷ []) ∷ []
+n = line (Real 3 below) (Refused 9 2 1) (lent 3 ∷ []) ∷ line (Complex 3 below) (Refused 9 2 1) (lent 3 ∷ lent 3 ∷ [])
+    ∷ []
 
 n-holds : Holds n
 unfolding openedMarked n
@@ -243,5 +253,6 @@ markedCalls = a ++ b ++ c ++ d ++ e ++ f ++ g ++ h ++ i ++ j ++ k ++ l ++ m ++ n
 pub marked : map (λ x. answerOf (x .call)) markedCalls ≡ map (λ x. x .answer) markedCalls
 unfolding markedCalls
 marked =
-    (a-holds then b-holds then c-holds then d-holds then e-holds then f-holds then g-holds then h-holds then i-holds then j-holds then k-holds then l-holds then m-holds
+    (a-holds then b-holds then c-holds then d-holds then e-holds then f-holds then g-holds then h-holds then i-holds
+    then j-holds then k-holds then l-holds then m-holds
     then n-holds) .all

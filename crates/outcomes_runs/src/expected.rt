@@ -1,5 +1,5 @@
-// The words that are expected of a call: number, row and column, as they are told; then all that x, y and z hold. Places
-// in them are followed: 999 where something differs.
+// The words that are expected of a call: number, row and column, as they are told; then all that x, y and z hold.
+// Places in them are followed: 999 where something differs.
 use refusal::Told;
 
 fn told(w: &[u64], t: Told) -> usize {

@@ -1,5 +1,5 @@
-// The items of a text, a line each: NAME: CALL; EXPECTED. Blank lines and lines that begin with # are left out. The words of a
-// call are its entry, order, tolerance, budget, the lengths of x, y and z, and its numbers.
+// The items of a text, a line each: NAME: CALL; EXPECTED. Blank lines and lines that begin with # are left out. The
+// words of a call are its entry, order, tolerance, budget, the lengths of x, y and z, and its numbers.
 ghost use Prim.Native.Nat.{_≤_};
 ghost use lib.ListN.{length};
 use crate::call;

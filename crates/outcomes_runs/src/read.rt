@@ -21,7 +21,8 @@ fn put(w: &mut [u64], k: usize, d: u64)
     }
 }
 
-// Takes a byte where so many words were begun, and answers how many are now. What stands before the first space is no word.
+// Takes a byte where so many words were begun, and answers how many are now. What stands before the first space is no
+// word.
 fn take(w: &mut [u64], count: usize, b: u8) -> usize
     requires { ⌜ count + 1 < 2 ^ 64 ⌝ }
     ensures { λ r. ⌜ r ≤ count + 1 ⌝ }

@@ -50,7 +50,8 @@ pub splitAt-length : (asked : Setting) (k : ℕ) (p : Pair) → length (splitAt 
 unfolding splitAt
 splitAt-length asked k p =
     let n = asked .order in
-    cond-hold (λ r. length (r .t) ≡ length (p .t)) (blockFits n (length (p .t)) (k + 2) (k + 2)) _ p (λ _. turnedT-length n k (basisOf (blockAt n k (p .t))) (p .t)) refl
+    cond-hold (λ r. length (r .t) ≡ length (p .t)) (blockFits n (length (p .t)) (k + 2) (k + 2)) _ p
+    (λ _. turnedT-length n k (basisOf (blockAt n k (p .t))) (p .t)) refl
 
 pub splitAt-frame : (asked : Setting) (k : ℕ) (p : Pair) (i j : ℕ) → i < asked .order → j < i → (i ≡ k + 1 → j ≡ k → ⊥)
     → splitAt asked k p .t ! place (asked .order) i j ≡ p .t ! place (asked .order) i j

@@ -41,7 +41,8 @@ pub basis-none : (b : Block) → isZero (b .h10) ≡ false → NotReal ≡ eigva
 unfolding basisBy
 basis-none b h k = sym (basis-by b NotReal h k)
 
-pub basis-made : (b : Block) (v : Values) (d : Bool) → isZero (b .h10) ≡ false → Real v ≡ eigvalsOf b → lt (modulusOf (v .second ⊖ b .h11)) (modulusOf (v .first ⊖ b .h11)) ≡ d
+pub basis-made : (b : Block) (v : Values) (d : Bool) → isZero (b .h10) ≡ false → Real v ≡ eigvalsOf b
+    → lt (modulusOf (v .second ⊖ b .h11)) (modulusOf (v .first ⊖ b .h11)) ≡ d
     → Rotate (newOf (cond d (v .first ⊖ b .h11) (v .second ⊖ b .h11)) (b .h10) .rotation) ≡ basisOf b
 unfolding basisBy
 basis-made b v d h k l = sym (basis-by b (Real v) h k ∙ ap (λ d. Rotate (newOf (cond d (v .first ⊖ b .h11) (v .second ⊖ b .h11)) (b .h10) .rotation)) l)

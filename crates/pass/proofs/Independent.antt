@@ -52,7 +52,8 @@ closing-t : (b d : Bool) (asked : Setting) (w : Window) (p r : Pair) → p .t �
 unfolding closing
 closing-t b d asked w p r h =
     let k = w .end - 1 in
-    stepAt-t b d asked w k (list2 (bulgeEnd (asked .order) k (p .t))) p r h ∙ ap (λ t. stepAt (wanting d asked) w k (list2 (bulgeEnd (asked .order) k t)) r .t) h
+    stepAt-t b d asked w k (list2 (bulgeEnd (asked .order) k (p .t))) p r h
+    ∙ ap (λ t. stepAt (wanting d asked) w k (list2 (bulgeEnd (asked .order) k t)) r .t) h
 
 passHere-t : (b d : Bool) (asked : Setting) (w : Window) (p r : Pair) → p .t ≡ r .t → passHere (wanting b asked) w p .t ≡ passHere (wanting d asked) w r .t
 unfolding passHere

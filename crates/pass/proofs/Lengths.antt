@@ -52,7 +52,10 @@ reflectedAt-length : (asked : Setting) (k rows : ℕ) (a : List Float) (p : Pair
 unfolding reflectedAt
 reflectedAt-length asked k rows a p =
     let n = asked .order in
-    record { t = simp (reflectedRows-length, reflected-length); q = onQ-length (asked .wanted) (reflectedRows a one n n k) (p .q) (reflectedRows-length a one n n k (p .q)) }
+    record {
+      t = simp (reflectedRows-length, reflected-length);
+      q = onQ-length (asked .wanted) (reflectedRows a one n n k) (p .q) (reflectedRows-length a one n n k (p .q));
+    }
 
 stepAt-length : (asked : Setting) (w : Window) (k : ℕ) (c : List Float) (p : Pair) → AsLong p (stepAt asked w k c p)
 unfolding stepAt
@@ -61,7 +64,8 @@ stepAt-length asked w k c p =
     let rows = rowsAt k (w .end) in
     let here = pair (sweptPast (asked .order) (w .start) k (length c) (r .norm) (p .t)) (p .q) in
     cond-hold (AsLong p) (r .reflected) (reflectedAt asked k rows (r .axis) here) p
-    (λ _. then-long (record { t = sweptPast-length (asked .order) (w .start) k (length c) (r .norm) (p .t); q = refl }) (reflectedAt-length asked k rows (r .axis) here)) (same-long p)
+    (λ _. then-long (record { t = sweptPast-length (asked .order) (w .start) k (length c) (r .norm) (p .t); q = refl })
+    (reflectedAt-length asked k rows (r .axis) here)) (same-long p)
 
 -- ---- the pass
 

@@ -29,7 +29,8 @@ module _ (asked : Setting) (w : Window) (k : ℕ) (c : List Float) (p : Pair) wh
 
   -- there is one: t is what the column was swept to, and T and Q are reflected from there
   pub step-made : (x : AxisAnswer) (t : List Float) (rows : ℕ) (after : Pair) → x ≡ axisOf bare c → x .reflected ≡ true
-      → t ≡ sweptPast (asked .order) (w .start) k (length c) (x .norm) (p .t) → rows ≡ rowsAt k (w .end) → after ≡ reflectedAt asked k rows (x .axis) (pair t (p .q))
+      → t ≡ sweptPast (asked .order) (w .start) k (length c) (x .norm) (p .t) → rows ≡ rowsAt k (w .end)
+      → after ≡ reflectedAt asked k rows (x .axis) (pair t (p .q))
       → after ≡ stepAt asked w k c p
   step-made x t rows after e h swept count made =
       made ∙ ap (λ r. reflectedAt asked k r (x .axis) (pair t (p .q))) count ∙ ap (λ t. reflectedAt asked k (rowsAt k (w .end)) (x .axis) (pair t (p .q))) swept

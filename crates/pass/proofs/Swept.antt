@@ -21,7 +21,8 @@ swept-two n k x t =
     let e : k + 1 + 1 ≡ k + 2 = omega arith in
     sym (range-one (cleared n k) (k + 1) _) ∙ ap (λ b. range (cleared n k) (k + 1) b (set t (place n k (k - 1)) x)) e
 
-pub swept-three : (n k : ℕ) (x : Float) (t : List Float) → set (set (set t (place n k (k - 1)) x) (place n (k + 1) (k - 1)) zero) (place n (k + 2) (k - 1)) zero ≡ swept n k 3 x t
+pub swept-three : (n k : ℕ) (x : Float) (t : List Float) → set (set (set t (place n k (k - 1)) x) (place n (k + 1) (k - 1)) zero) (place n (k + 2) (k - 1)) zero
+    ≡ swept n k 3 x t
 unfolding swept
 swept-three n k x t =
     let e : k + 1 + 2 ≡ k + 3 = omega arith in
@@ -42,7 +43,8 @@ pub swept-frame : (n k rows : ℕ) (x : Float) (t : List Float) (i j : ℕ) → 
 unfolding swept
 swept-frame n k rows x t i j h m some out =
     range-frame _ (k + 1) (k + rows) _ (place n i j) nan
-    (λ i' u a b. getD-set-other u (place n i' (k - 1)) (place n i j) zero nan (places n i j i' (k - 1) h (omega arith) (λ e f. out f (omega arith) (omega arith))))
+    (λ i' u a b. getD-set-other u (place n i' (k - 1)) (place n i j) zero nan
+    (places n i j i' (k - 1) h (omega arith) (λ e f. out f (omega arith) (omega arith))))
     ∙ getD-set-other t (place n k (k - 1)) (place n i j) x nan (places n i j k (k - 1) h (omega arith) (λ e f. out f (omega arith) (omega arith)))
 
 -- below its first row it is +0
@@ -54,5 +56,6 @@ swept-zero n k rows x t i size m l h =
     let same : length before ≡ n * n = range-length (cleared n k) (k + 1) i (set t (place n k (k - 1)) x) (λ i s. simp length-set) ∙ simp length-set size in
     let at =
     range-at (cleared n k) (k + 1) (k + rows) (set t (place n k (k - 1)) x) i (place n i (k - 1)) nan (omega arith) h
-    (λ i' u a b d. getD-set-other u (place n i' (k - 1)) (place n i (k - 1)) zero nan (places n i (k - 1) i' (k - 1) (omega arith) (omega arith) (λ e f. d (sym e)))) in
+    (λ i' u a b d. getD-set-other u (place n i' (k - 1)) (place n i (k - 1)) zero nan
+    (places n i (k - 1) i' (k - 1) (omega arith) (omega arith) (λ e f. d (sym e)))) in
     at ∙ getD-set-same before (place n i (k - 1)) zero nan (omega (arith, same, in-square n i (k - 1) (omega arith) (omega arith)))

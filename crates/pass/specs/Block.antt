@@ -25,7 +25,12 @@ use Rattle.pass.specs.Pair.{Pair, pair, onQ}
 
 -- rows (h00 h01), (h10 h11): the block of T with its upper left entry at k k
 unfoldable pub blockAt : (n k : ℕ) → (t : List Float) → Block
-blockAt n k t = record { h00 = t ! place n k k; h10 = t ! place n (k + 1) k; h01 = t ! place n k (k + 1); h11 = t ! place n (k + 1) (k + 1) }
+blockAt n k t = record {
+  h00 = t ! place n k k;
+  h10 = t ! place n (k + 1) k;
+  h01 = t ! place n k (k + 1);
+  h11 = t ! place n (k + 1) (k + 1);
+}
 
 -- ---- its eigenvalues
 
@@ -71,7 +76,8 @@ unfoldable pub splitAt : Setting → (k : ℕ) → Pair → Pair
 splitAt asked k p =
     let n = asked .order in
     let b = basisOf (blockAt n k (p .t)) in
-    cond (blockFits n (length (p .t)) (k + 2) (k + 2)) (pair (turnedT n k b (p .t)) (onQ (asked .wanted) (turnedQ n k b) (p .q))) p
+    cond (blockFits n (length (p .t)) (k + 2) (k + 2))
+    (pair (turnedT n k b (p .t)) (onQ (asked .wanted) (turnedQ n k b) (p .q))) p
 
 -- ---- order 2
 

@@ -65,7 +65,8 @@ sweptPast n s k rows x t = cond (leb k s) t (swept n k rows x t)
 unfoldable pub reflectedAt : Setting → (k rows : ℕ) → (a : List Float) → Pair → Pair
 reflectedAt asked k rows a p =
     let n = asked .order in
-    pair (reflectedRows a one n rows k (reflected bare a one n k k n (p .t))) (onQ (asked .wanted) (reflectedRows a one n n k) (p .q))
+    pair (reflectedRows a one n rows k (reflected bare a one n k k n (p .t)))
+    (onQ (asked .wanted) (reflectedRows a one n n k) (p .q))
 
 -- T's columns are reflected in the rows down to k + 3, or to the window's end
 abbrev pub rowsAt : (k end : ℕ) → ℕ
@@ -97,4 +98,5 @@ passHere asked w p =
 -- the same for every window: nothing is done where it is none of three rows or more of the matrix
 unfoldable pub passOf : Setting → Window → Pair → Pair
 passOf asked w p =
-    cond (blockFits (asked .order) (length (p .t)) (w .end + 1) (w .end + 1) && leb (w .start + 2) (w .end)) (passHere asked w p) p
+    cond (blockFits (asked .order) (length (p .t)) (w .end + 1) (w .end + 1) && leb (w .start + 2) (w .end))
+    (passHere asked w p) p

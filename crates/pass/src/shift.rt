@@ -8,7 +8,8 @@ ghost use Rattle.matrix.specs.Sum.{bare};
 ghost use Rattle.matrix.specs.Vectors.{list2, list3};
 ghost use Rattle.reflection.specs.Reflected.{reflected, reflectedRows};
 ghost use Rattle.pass.specs.Pair.{pair};
-ghost use Rattle.pass.specs.Pass.{firstColumn, bulge, bulgeEnd, columnAt, sweptPast, reflectedAt, rowsAt, stepAt, chased, closing, passHere, passOf};
+ghost use Rattle.pass.specs.Pass.{firstColumn, bulge, bulgeEnd, columnAt, sweptPast, reflectedAt, rowsAt, stepAt};
+ghost use Rattle.pass.specs.Pass.{chased, closing, passHere, passOf};
 use crate::place::get;
 use crate::place::put;
 use crate::setting::Setting;
@@ -205,7 +206,8 @@ fn close(t: &mut [f64], q: &mut [f64], asked: Setting, w: Window)
 fn shift_here(t: &mut [f64], q: &mut [f64], asked: Setting, w: Window)
     requires { ⌜ (asked .order ≤ 64) × (length (now t) ≡ asked .order * asked .order) × (w .start + 2 ≤ w .end)
         × (w .end < asked .order) ⌝ }
-    ensures { λ _. ⌜ pair (now (t .exit)) (now (q .exit)) ≡ passHere asked w (pair (now (t .entry)) (now (q .entry))) ⌝ }
+    ensures { λ _. ⌜ (pair (now (t .exit)) (now (q .exit)))
+        ≡ passHere asked w (pair (now (t .entry)) (now (q .entry))) ⌝ }
 {
     let start = w.start;
     let end = w.end;

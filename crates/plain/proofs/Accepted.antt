@@ -37,5 +37,6 @@ module _ (asked : Setting) (budget : ℕ) (m : List Float) (p : Pair) (w values 
       }
 
   -- so no other refusal is met there
-  pub accepted-read : {c : ℕ} → decomposed .answer ≡ Accepted c → length values ≡ n → realRead n (decomposed .pair .t) values .answer ≡ pairCheck n (decomposed .pair .t)
+  pub accepted-read : {c : ℕ} → decomposed .answer ≡ Accepted c → length values ≡ n
+      → realRead n (decomposed .pair .t) values .answer ≡ pairCheck n (decomposed .pair .t)
   accepted-read e l = given-answer n (decomposed .pair .t) values (accepted-given e l)

@@ -36,7 +36,8 @@ module _ (n : ℕ) (m values w : List Float) where
   pub finite-in-place : entryChecks n m ≡ Passed → plainFiniteOf n m values w ≡ plainPlacedOf n m values w
   unfolding plainFiniteOf plainPlacedOf givenChecks
   finite-in-place h =
-      ap (λ c. plainBegun c n m values w) (sym (next-nothing (orderChecks n next lengths) (entryChecks n m) h) ∙ next-assoc (orderChecks n) lengths (entryChecks n m))
+      ap (λ c. plainBegun c n m values w) (sym (next-nothing (orderChecks n next lengths) (entryChecks n m) h)
+      ∙ next-assoc (orderChecks n) lengths (entryChecks n m))
 
   -- refused before the run: that refusal is answered, and nothing is touched
   pub untouched : {r : Refusal} → checks ≡ Refused r → plainPlacedOf n m values w ≡ inPlace (Refused r) m values w

@@ -15,7 +15,8 @@ use Rattle.plain.proofs.plain_eigenvalues_of_finite.Kinds as finite
 use Rattle.plain.proofs.plain_eigenvalues_of_finite.Reads as reads-finite
 
 -- the list of eigenvalues and the workspace
-pub one-plain : (κs : Lfts 3) (a : Dens κs plain.ps) (r r' : Checked) (s s' : AtExit (endedOf 3 plain.ps plain.r) κs) → reads-plain.Post κs a r s → reads-plain.Post κs a r' s'
+pub one-plain : (κs : Lfts 3) (a : Dens κs plain.ps) (r r' : Checked) (s s' : AtExit (endedOf 3 plain.ps plain.r) κs) → reads-plain.Post κs a r s
+    → reads-plain.Post κs a r' s'
     → (r ≡ r') × (s .1 .1 .0 .now ≡ s' .1 .1 .0 .now) × (s .1 .1 .1 .0 .now ≡ s' .1 .1 .1 .0 .now)
 one-plain κs a r r' s s' h k = let e = one-answer _ _ _ h k in (ap (λ x. x .answer) e, ap (λ x. x .values) e, ap (λ x. x .work) e)
 

@@ -30,7 +30,8 @@ use Rattle.decomposition.proofs.CheckedArguments.{right-passed}
 use Rattle.decomposition.proofs.Touched.{checksOf, run-judged}
 use Rattle.decomposition.proofs.Count.{refused-reached, reached-refused}
 use Rattle.eigenvalues.specs.Readers.{pairCheck, leftBy}
-use Rattle.plain.specs.Plain.{plainLengths, Sized, plainTwo, plainBudget, plainAsked, plainRan, complexChecked, plainRun, plainRead, plainLeft, plainBegun, plainPlacedOf, plainOf}
+use Rattle.plain.specs.Plain.{plainLengths, Sized, plainTwo, plainBudget, plainAsked, plainRan, complexChecked, plainRun, plainRead, plainLeft}
+use Rattle.plain.specs.Plain.{plainBegun, plainPlacedOf, plainOf}
 use Rattle.plain.proofs.InPlace.{checks}
 use Rattle.plain.proofs.Plainly.{given-sized}
 
@@ -49,7 +50,8 @@ lengths-elsewhere n mn vn wn = only-next _ _ _ (length-elsewhere mn _) (only-nex
 
 checks-elsewhere : (lengths : Checked) (n : ℕ) (m : List Float) → Only Elsewhere lengths → Only Elsewhere (givenChecks lengths n m)
 unfolding toldOf
-checks-elsewhere lengths n m h = only-given _ _ _ _ (λ e. omega arith, λ e. omega arith) (λ e. omega arith, λ e. omega arith) h (λ _. (λ e. omega arith, λ e. omega arith))
+checks-elsewhere lengths n m h =
+    only-given _ _ _ _ (λ e. omega arith, λ e. omega arith) (λ e. omega arith, λ e. omega arith) h (λ _. (λ e. omega arith, λ e. omega arith))
 
 two-elsewhere : (v : Eigvals) → Only Elsewhere (plainTwo v .answer)
 unfolding plainTwo toldOf
@@ -106,7 +108,8 @@ module _ (n : ℕ) (m values w : List Float) where
   unfolding plainOf plainBegun
   plain-kept h = ap (λ p. p .answer) (by-checks h)
 
-  by-order : {b : Bool} → checks n m values w ≡ Passed → eqb n 2 ≡ b → answer ≡ cond b (plainTwo (eigvalsOf (blockAt 2 0 m))) (plainRun n (plainRan n m w)) .answer
+  by-order : {b : Bool} → checks n m values w ≡ Passed → eqb n 2 ≡ b
+      → answer ≡ cond b (plainTwo (eigvalsOf (blockAt 2 0 m))) (plainRun n (plainRan n m w)) .answer
   unfolding plainOf plainBegun leftBy plainRead
   by-order h k = ap (λ p. p .answer) (by-checks h) ∙ ap (λ b. cond b (plainTwo (eigvalsOf (blockAt 2 0 m))) (plainRun n (plainRan n m w)) .answer) k
 
@@ -147,4 +150,5 @@ module _ (n : ℕ) (m values w : List Float) where
     where
       go : (b : Bool) → eqb n 2 ≡ b → answer ≡ Refused BudgetReached
       go true k = absurd (omega (arith, two-counts k))
-      go false k = plain-is h k ∙ ap (λ a. complexChecked a n (decomposed .pair .t)) (reached-refused _ (plainAsked n) plainBudget m (pair m []) w (plain-passed h) e)
+      go false k =
+          plain-is h k ∙ ap (λ a. complexChecked a n (decomposed .pair .t)) (reached-refused _ (plainAsked n) plainBudget m (pair m []) w (plain-passed h) e)

@@ -30,7 +30,8 @@ use Rattle.decomposition.specs.Decomposition.{Outcome, outcome, Settlement, dec
 use Rattle.decomposition.proofs.CheckedArguments.{sizes-fit}
 use Rattle.eigenvalues.specs.Readers.{pairCheck, diagonal, Read, read, leftBy}
 use Rattle.eigenvalues.proofs.DiagonalSearch.{Sought, sought-none, sought-more, place-here, place-none}
-use Rattle.plain.specs.Plain.{plainLengths, Sized, bothOf, plainTwo, plainBudget, plainAsked, plainRan, complexChecked, plainRun, plainRead, plainLeft, InPlace, inPlace, plainBegun}
+use Rattle.plain.specs.Plain.{plainLengths, Sized, bothOf, plainTwo, plainBudget, plainAsked, plainRan, complexChecked, plainRun, plainRead, plainLeft}
+use Rattle.plain.specs.Plain.{InPlace, inPlace, plainBegun}
 
 -- ---- what the checks of the order and the lengths tell
 
@@ -65,7 +66,8 @@ run-fits z = sizes-fit (z .some) (z .order) (record { alike = refl; square = z .
 abbrev unfit : Values → ℕ → Bool
 unfit v k = not (isFinite (bothOf v ! k))
 
-pub two-first : (v : Values) (values : List Float) → isFinite (v .first) ≡ false → read (Refused (ResultNotFinite (at 0 0))) values ≡ leftBy (plainTwo (Real v)) values
+pub two-first : (v : Values) (values : List Float) → isFinite (v .first) ≡ false
+    → read (Refused (ResultNotFinite (at 0 0))) values ≡ leftBy (plainTwo (Real v)) values
 unfolding plainTwo leftBy refuseAt ifPassed
 two-first v values h = rw (← place-here (sought-none (unfit v) 2) (omega arith) (ap not h))
 
@@ -73,11 +75,13 @@ two-first v values h = rw (← place-here (sought-none (unfit v) 2) (omega arith
 past-first : (v : Values) → isFinite (v .first) ≡ true → Sought (unfit v) 2 1
 past-first v h = sought-more (sought-none (unfit v) 2) (omega arith) (ap not h)
 
-pub two-second : (v : Values) (values : List Float) → isFinite (v .first) ≡ true → isFinite (v .second) ≡ false → read (Refused (ResultNotFinite (at 1 1))) values ≡ leftBy (plainTwo (Real v)) values
+pub two-second : (v : Values) (values : List Float) → isFinite (v .first) ≡ true → isFinite (v .second) ≡ false
+    → read (Refused (ResultNotFinite (at 1 1))) values ≡ leftBy (plainTwo (Real v)) values
 unfolding plainTwo leftBy refuseAt ifPassed
 two-second v values h k = rw (← place-here (past-first v h) (omega arith) (ap not k))
 
-pub two-both : (v : Values) (values out : List Float) → isFinite (v .first) ≡ true → isFinite (v .second) ≡ true → out ≡ bothOf v → read Passed out ≡ leftBy (plainTwo (Real v)) values
+pub two-both : (v : Values) (values out : List Float) → isFinite (v .first) ≡ true → isFinite (v .second) ≡ true → out ≡ bothOf v
+    → read Passed out ≡ leftBy (plainTwo (Real v)) values
 unfolding plainTwo leftBy refuseAt ifPassed
 two-both v values out h k e = rw (← place-none (sought-more (past-first v h) (omega arith) (ap not k)) (omega arith), e)
 
@@ -118,7 +122,8 @@ run-read n o t values h e k = rw (h, ← e) k
 -- ---- both, once the arguments have passed: x is what was answered, and what is left
 
 told-by : (x : InPlace) (r : Read) (t w : List Float) → read (x .answer) (x .values) ≡ r → x .t ≡ t → x .work ≡ w → x ≡ inPlace (r .answer) t (r .values) w
-told-by x r t w e l k = ap (λ (r : Read). inPlace (r .answer) (x .t) (r .values) (x .work)) e ∙ ap (λ t. inPlace (r .answer) t (r .values) (x .work)) l ∙ ap (λ w. inPlace (r .answer) t (r .values) w) k
+told-by x r t w e l k = ap (λ (r : Read). inPlace (r .answer) (x .t) (r .values) (x .work)) e ∙ ap (λ t. inPlace (r .answer) t (r .values) (x .work)) l
+    ∙ ap (λ w. inPlace (r .answer) t (r .values) w) k
 
 pub begun-two : (x : InPlace) (n : ℕ) (t values w : List Float) → n ≡ 2 → read (x .answer) (x .values) ≡ leftBy (plainTwo (eigvalsOf (blockAt 2 0 t))) values
     → x .t ≡ t → x .work ≡ filled zero w → x ≡ plainBegun Passed n t values w

@@ -33,7 +33,8 @@ use Rattle.eigenvalues.specs.Readers.{pairCheck, diagonal, Read, read, leftBy}
 -- ---- before the run: the matrix, one number for each row, the workspace
 
 unfoldable pub plainLengths : (n mn vn wn : ℕ) → Checked
-plainLengths n mn vn wn = lengthCheck WrongLength mn (n * n) next lengthCheck WrongLength vn n next lengthCheck WrongLength wn (2 * n)
+plainLengths n mn vn wn =
+    lengthCheck WrongLength mn (n * n) next lengthCheck WrongLength vn n next lengthCheck WrongLength wn (2 * n)
 
 -- what is known where the order and the lengths have passed
 pub record Sized (n mn vn wn : ℕ) : Type 0 where
@@ -96,15 +97,18 @@ inPlace answer t values w = record { answer = answer; t = t; values = values; wo
 
 -- refused before the run: nothing is touched; after it, the workspace is +0 throughout
 unfoldable pub plainBegun : Checked → ℕ → (t values w : List Float) → InPlace
-plainBegun Passed n t values w = let r = leftBy (plainRead n t w) values in inPlace (r .answer) (plainLeft n t w) (r .values) (filled zero w)
+plainBegun Passed n t values w =
+    let r = leftBy (plainRead n t w) values in inPlace (r .answer) (plainLeft n t w) (r .values) (filled zero w)
 plainBegun (Refused r) n t values w = inPlace (Refused r) t values w
 
 unfoldable pub plainPlacedOf : ℕ → (t values w : List Float) → InPlace
-plainPlacedOf n t values w = plainBegun (givenChecks (plainLengths n (length t) (length values) (length w)) n t) n t values w
+plainPlacedOf n t values w =
+    plainBegun (givenChecks (plainLengths n (length t) (length values) (length w)) n t) n t values w
 
 -- The same where the entries need no look, as those that are known to be finite: 6 is not checked.
 unfoldable pub plainFiniteOf : ℕ → (t values w : List Float) → InPlace
-plainFiniteOf n t values w = plainBegun (orderChecks n next plainLengths n (length t) (length values) (length w)) n t values w
+plainFiniteOf n t values w =
+    plainBegun (orderChecks n next plainLengths n (length t) (length values) (length w)) n t values w
 
 -- ---- and of a matrix that is kept
 

@@ -16,7 +16,8 @@ ghost use Rattle.refusal.specs.Refusal.{_next_};
 ghost use Rattle.refusal.specs.Checks.{orderChecks, givenChecks};
 ghost use Rattle.decomposition.specs.Decomposition.{outcome};
 ghost use Rattle.eigenvalues.specs.Readers.{read, leftBy};
-ghost use Rattle.plain.specs.Plain.{plainLengths, Sized, plainTwo, plainRan, plainRun, inPlace, plainBegun, plainPlacedOf, plainFiniteOf, plain, kept, plainOf};
+ghost use Rattle.plain.specs.Plain.{plainLengths, Sized, plainTwo, plainRan, plainRun, inPlace, plainBegun};
+ghost use Rattle.plain.specs.Plain.{plainPlacedOf, plainFiniteOf, plain, kept, plainOf};
 use decomposition::Decomposed;
 use pass::Block;
 use pass::Eigvals;
@@ -108,7 +109,8 @@ fn two_of(m: &[f64], values: &mut [f64]) -> Checked
 // Order 2: no run, so that the matrix is only read; the workspace is cleared as a run clears it.
 fn plain_two(m: &[f64], values: &mut [f64], work: &mut [f64]) -> Checked
     requires { ⌜ (length (now m) ≡ 4) × (length (now values) ≡ 2) ⌝ }
-    ensures { λ r. ⌜ (read r (now (values .exit)) ≡ leftBy (plainTwo (eigvalsOf (blockAt 2 0 (now (m .entry))))) (now (values .entry)))
+    ensures { λ r. ⌜ (read r (now (values .exit))
+        ≡ leftBy (plainTwo (eigvalsOf (blockAt 2 0 (now (m .entry))))) (now (values .entry)))
         × (now (work .exit) ≡ filled zero (now (work .entry))) ⌝ }
 {
     matrix::fill(work, 0.0);
@@ -134,7 +136,8 @@ fn decompose(t: &mut [f64], n: usize, work: &mut [f64]) -> Decomposed
 // Every other order: the diagonal of T, if it is accepted and no block of two stands.
 fn plain_run(t: &mut [f64], n: usize, values: &mut [f64], work: &mut [f64]) -> Checked
     requires { ⌜ Sized n (length (now t)) (length (now values)) (length (now work)) ⌝ }
-    ensures { λ r. ⌜ (read r (now (values .exit)) ≡ leftBy (plainRun n (plainRan n (now (t .entry)) (now (work .entry)))) (now (values .entry)))
+    ensures { λ r. ⌜ (read r (now (values .exit))
+        ≡ leftBy (plainRun n (plainRan n (now (t .entry)) (now (work .entry)))) (now (values .entry)))
         × (now (t .exit) ≡ plainRan n (now (t .entry)) (now (work .entry)) .pair .t)
         × (now (work .exit) ≡ filled zero (now (work .entry))) ⌝ }
 {

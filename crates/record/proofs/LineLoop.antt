@@ -23,8 +23,10 @@ joined-more : (line : ℕ → List ℕ) (k : ℕ) → joined line (k + 1) ≡ jo
 unfolding joined
 joined-more line k = rw add-one
 
-pub listing-more : {line : ℕ → List ℕ} {most at : ℕ} {text₀ : List ℕ} {k behind : ℕ} {text : List ℕ} {behind' : ℕ} {text' : List ℕ} → Listing line most at text₀ k behind text
-    → length text' ≡ length text → behind' ≤ behind + most → page behind' text' ≡ more (line k) (page behind text) → Listing line most at text₀ (k + 1) behind' text'
+pub listing-more : {line : ℕ → List ℕ} {most at : ℕ} {text₀ : List ℕ} {k behind : ℕ} {text : List ℕ} {behind' : ℕ} {text' : List ℕ}
+    → Listing line most at text₀ k behind text
+    → length text' ≡ length text → behind' ≤ behind + most → page behind' text' ≡ more (line k) (page behind text)
+    → Listing line most at text₀ (k + 1) behind' text'
 listing-more {line} {most} {at} {text₀} {k} l size upto put = record {
   size = size ∙ l .size;
   upto = omega (arith, mul-add most k 1);

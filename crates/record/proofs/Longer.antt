@@ -47,7 +47,8 @@ long-alike : (h : Header) (x y : ℕ) → 8212 < x → 8212 < y → headerChecks
 unfolding headerChecks refuse _next_
 long-alike h x y a b = go _ refl _ refl _ refl _ refl
   where
-    go : (k : Bool) → eqb (h .kind) 1 ≡ k → (z : Bool) → eqb (h .order) 0 ≡ z → (l : Bool) → ltb 32 (h .order) ≡ l → (d : Bool) → eqb (h .length) (16 + 8 * (h .order * h .order)) ≡ d
+    go : (k : Bool) → eqb (h .kind) 1 ≡ k → (z : Bool) → eqb (h .order) 0 ≡ z → (l : Bool) → ltb 32 (h .order) ≡ l → (d : Bool)
+        → eqb (h .length) (16 + 8 * (h .order * h .order)) ≡ d
         → headerChecks h x ≡ headerChecks h y
     go false e z f l g d i = rw e
     go true e true f l g d i = rw (e, f)

@@ -9,6 +9,7 @@ use Rattle.loops.specs.One.{one-answer}
 use Rattle.record.proofs.text.answer.Kinds as answer
 use Rattle.record.proofs.text.answer.Reads as reads-answer
 
-pub one-text : (κs : Lfts 2) (a : Dens κs answer.ps) (r r' : ℕ) (s s' : AtExit (endedOf 2 answer.ps answer.r) κs) → reads-answer.Post κs a r s → reads-answer.Post κs a r' s'
+pub one-text : (κs : Lfts 2) (a : Dens κs answer.ps) (r r' : ℕ) (s s' : AtExit (endedOf 2 answer.ps answer.r) κs) → reads-answer.Post κs a r s
+    → reads-answer.Post κs a r' s'
     → (r ≡ r') × (s .1 .0 .now ≡ s' .1 .0 .now)
 one-text κs a r r' s s' h k = let e = one-answer _ _ _ (h .0) (k .0) in (ap (λ x. x .at) e, ap (λ x. x .text) e)

@@ -1,4 +1,5 @@
--- Worked cases, by evaluation: the sample of document 01 with its text, every refusal of the program, and what is told first where two faults meet.
+-- Worked cases, by evaluation: the sample of document 01 with its text, every refusal of the program, and what is told
+-- first where two faults meet.
 use mathlib.Core.Path.{_≡_, refl}
 use Prim.Native.Nat.{ℕ}
 use Prim.Native.String.{String}
@@ -9,9 +10,11 @@ use Rattle.decomposition.specs.Known.{openedDecomposition}
 use Rattle.eigenvalues.specs.Known.{openedReaders}
 use Rattle.words.specs.Words.{le64, byteOf}
 use Rattle.words.specs.Floats.{floatsOf, zeros}
-use Rattle.record.specs.Text.{ascii, decimalIn, decimal, hexadecimal, refusedLine, passesLine, entryLine, eigenvalueLine, joined, matrixLines, eigenvalueLines}
+use Rattle.record.specs.Text.{ascii, decimalIn, decimal, hexadecimal, refusedLine, passesLine, entryLine}
+use Rattle.record.specs.Text.{eigenvalueLine, joined, matrixLines, eigenvalueLines}
 use Rattle.record.specs.Record.{le16, le32, headerOf, headerChecks, recordChecks}
-use Rattle.record.specs.Answer.{eigenvaluesText, readText, decomposedText, decomposed, matrixText, checkedText, textOf}
+use Rattle.record.specs.Answer.{eigenvaluesText, readText, decomposedText, decomposed, matrixText, checkedText}
+use Rattle.record.specs.Answer.{textOf}
 
 -- w in k bytes
 bytes : ℕ → ℕ → List ℕ
@@ -23,13 +26,16 @@ entries (w ∷ m) = bytes 8 w ++ entries m
 
 -- length, kind, order, budget, tolerance, entries
 recorded : ℕ → ℕ → ℕ → ℕ → ℕ → List ℕ → List ℕ
-recorded length kind order budget tolerance m = bytes 4 length ++ bytes 2 kind ++ bytes 2 order ++ bytes 4 budget ++ bytes 8 tolerance ++ entries m
+recorded length kind order budget tolerance m =
+    bytes 4 length ++ bytes 2 kind ++ bytes 2 order ++ bytes 4 budget ++ bytes 8 tolerance ++ entries m
 
 -- every definition that a case computes with
 unfoldable openedRecord : Unit {0}
 unfolding openedDecomposition openedReaders table le64 byteOf floatsOf zeros bytes entries recorded
-    ascii decimalIn decimal hexadecimal refusedLine passesLine entryLine eigenvalueLine joined matrixLines eigenvalueLines
-    le16 le32 headerOf headerChecks recordChecks eigenvaluesText readText decomposedText decomposed matrixText checkedText textOf
+    ascii decimalIn decimal hexadecimal refusedLine passesLine entryLine eigenvalueLine joined matrixLines
+    eigenvalueLines
+    le16 le32 headerOf headerChecks recordChecks eigenvaluesText readText decomposedText decomposed matrixText
+    checkedText textOf
 openedRecord = tt
 
 -- ---- the sample: order 2, budget 1, tolerance 0, entries 2 0 0 3
@@ -66,7 +72,8 @@ cases =
     ∷ recorded 48 2 0 1 0 []
     ∷ recorded 48 1 0 1 0 []
     ∷ recorded 48 1 33 1 0 []
-    -- a length field that is right for order 3, over an input of order 2; a byte too few; a byte too many, and tolerance 1
+    -- a length field that is right for order 3, over an input of order 2; a byte too few; a byte too many, and
+    -- tolerance 1
     ∷ recorded 88 1 2 1 0 j
     ∷ take 51 sample
     ∷ (recorded 48 1 2 1 unit j ++ 0 ∷ [])
@@ -76,7 +83,8 @@ cases =
     ∷ recorded 48 1 2 1000001 0 j
     ∷ recorded 48 1 2 1 0 (0 ∷ 0 ∷ 0x7ff0000000000001 ∷ 0 ∷ [])
     -- document 01's f at budget 1, and l
-    ∷ recorded 144 1 4 1 small (0 ∷ unit ∷ 0 ∷ 0 ∷ 0xbff0000000000000 ∷ 0 ∷ 0 ∷ 0 ∷ 0 ∷ 0 ∷ 0 ∷ unit ∷ 0 ∷ 0 ∷ 0xbff0000000000000 ∷ 0 ∷ [])
+    ∷ recorded 144 1 4 1 small (0 ∷ unit ∷ 0 ∷ 0 ∷ 0xbff0000000000000 ∷ 0 ∷ 0 ∷ 0 ∷ 0 ∷ 0 ∷ 0 ∷ unit ∷ 0 ∷ 0
+    ∷ 0xbff0000000000000 ∷ 0 ∷ [])
     ∷ recorded 48 1 2 1 small (0 ∷ large ∷ large ∷ 0 ∷ [])
     ∷ []
 
@@ -105,7 +113,8 @@ known = refl
 -- ---- the complex reader's own refusal, which stands after Q
 
 -- a block of two, rows (5e299 -1e300), (1e300 -5e299), whose discriminant is NaN
-not-read : textOf (recorded 48 1 2 1 0 (0x7e27e43c8800759c ∷ 0x7e37e43c8800759c ∷ 0xfe37e43c8800759c ∷ 0xfe27e43c8800759c ∷ [])) ≡ ascii
+not-read : textOf (recorded 48 1 2 1 0 (0x7e27e43c8800759c ∷ 0x7e37e43c8800759c ∷ 0xfe37e43c8800759c
+    ∷ 0xfe27e43c8800759c ∷ [])) ≡ ascii
     "order 2 passes 0\nt 0 0 7e27e43c8800759c\nt 1 0 7e37e43c8800759c\nt 0 1 fe37e43c8800759c\nt 1 1 fe27e43c8800759c\nq 0 0 3ff0000000000000\nq 1 0 0000000000000000\nq 0 1 0000000000000000\nq 1 1 3ff0000000000000\neigenvalues refused 11 0 0\n"
 unfolding openedRecord
 not-read = refl

@@ -13,7 +13,8 @@ pub record Page : Type 0 where
 abbrev pub page : ℕ → List ℕ → Page
 page at text = record { at = at; text = text }
 
--- s stands at the front of what was lent, and its length is answered; where less than 64 KiB were lent, which every text fits in, nothing is touched
+-- s stands at the front of what was lent, and its length is answered; where less than 64 KiB were lent, which every
+-- text fits in, nothing is touched
 unfoldable pub printed : List ℕ → List ℕ → Page
 printed s lent = cond (leb 65536 (length lent)) (page (length s) (s ++ drop (length s) lent)) (page 0 lent)
 

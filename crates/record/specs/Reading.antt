@@ -1,5 +1,5 @@
--- What one read of the input comes to, told what it answers: below 0 where it failed, 0 at the end of the input, else how many bytes came, which may be fewer
--- than there is room for.
+-- What one read of the input comes to, told what it answers: below 0 where it failed, 0 at the end of the input, else
+-- how many bytes came, which may be fewer than there is room for.
 use Prim.Native.Nat.{ℕ, zero, suc, _+_, _≤_, min}
 use mathlib.Core.List.{List}
 use lib.IntN.{ℤ, pos, negsuc}

@@ -1,11 +1,13 @@
--- A record: length (4 bytes: how many bytes follow), kind (2), order (2), budget (4), tolerance (8, the pattern of a float), then the entries, column by
--- column, 8 bytes each; the lowest byte of each number first. And what is checked of it before anything else, in document 01's order.
+-- A record: length (4 bytes: how many bytes follow), kind (2), order (2), budget (4), tolerance (8, the pattern of a
+-- float), then the entries, column by column, 8 bytes each; the lowest byte of each number first. And what is checked
+-- of it before anything else, in document 01's order.
 use Prim.Native.Nat.{ℕ, _+_, _*_}
 use mathlib.Core.Bool.{not}
 use mathlib.Core.List.{List}
 use lib.Dec.{eqb, ltb}
 use lib.ListN.{length, getD}
-use Rattle.refusal.specs.declared.refusal.Refusal.the-variants.{OrderZero, OrderTooLarge, InputCutShort, UnknownKind, InputLengthWrong}
+use Rattle.refusal.specs.declared.refusal.Refusal.the-variants.{OrderZero, OrderTooLarge, InputCutShort, UnknownKind}
+use Rattle.refusal.specs.declared.refusal.Refusal.the-variants.{InputLengthWrong}
 use Rattle.refusal.specs.declared.refusal.Checked.{Checked}
 use Rattle.refusal.specs.Refusal.{refuse, _next_}
 use Rattle.words.specs.Words.{le64}

@@ -16,7 +16,8 @@ unfoldable pub ascii : String → List ℕ
 ascii string.[] = []
 ascii (string._∷_ c s) = code c ∷ ascii s
 
--- ---- numbers; `glyph` is the code of a digit and `digits b k n` the last k digits of n in base b, both of the kit's `io`
+-- ---- numbers; `glyph` is the code of a digit and `digits b k n` the last k digits of n in base b, both of the kit's
+-- `io`
 
 -- the digits of n in base 10: the last k, or as many as there are
 unfoldable pub decimalIn : (k n : ℕ) → List ℕ

@@ -60,7 +60,8 @@ fn put_read(text: &mut [u8], at: usize, n: usize, t: &[f64]) -> usize
 fn put_accepted(text: &mut [u8], n: usize, passes: u64, t: &[f64], q: &[f64]) -> usize
     requires { ⌜ (65536 ≤ length (now text)) × (n ≤ 32) × (length (now t) ≡ n * n) × (length (now q) ≡ n * n) ⌝ }
     ensures { λ r. ⌜ page r (now (text .exit))
-        ≡ more (decomposedText n (Accepted passes) (pair (now (t .entry)) (now (q .entry)))) (page 0 (now (text .entry))) ⌝ }
+        ≡ more (decomposedText n (Accepted passes) (pair (now (t .entry)) (now (q .entry))))
+        (page 0 (now (text .entry))) ⌝ }
     ensures { λ r. ⌜ r ≤ 65536 ⌝ }
 {
     let a = put_passes(text, 0, n, passes);
@@ -90,7 +91,8 @@ fn decompose(
     q: &mut [f64],
     work: &mut [f64],
 ) -> Decomposed
-    requires { ⌜ (length (now entries) ≡ 8 * (h .order * h .order)) × (length (now t) ≡ h .order * h .order) × (now q ≡ zeros (h .order * h .order))
+    requires { ⌜ (length (now entries) ≡ 8 * (h .order * h .order)) × (length (now t) ≡ h .order * h .order)
+        × (now q ≡ zeros (h .order * h .order))
         × (now work ≡ zeros (2 * h .order)) ⌝ }
     ensures { λ r. ⌜ outcome r (pair (now (t .exit)) (now (q .exit))) (now (work .exit))
         ≡ decomposed h (floatsOf (now (entries .entry))) ⌝ }

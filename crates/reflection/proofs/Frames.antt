@@ -14,7 +14,8 @@ pub reflected-length : (sum : Order) (a : List Float) (s : Float) (n row c0 c1 :
 unfolding reflected
 reflected-length sum a s n row c0 c1 t = onEntries-length _ _ _ _ _ _ _
 
-pub reflected-frame : (sum : Order) (a : List Float) (s : Float) (n row c0 c1 : ℕ) (t : List Float) (i j : ℕ) → i < n → (Inside row (row + length a) c0 c1 i j → ⊥)
+pub reflected-frame : (sum : Order) (a : List Float) (s : Float) (n row c0 c1 : ℕ) (t : List Float) (i j : ℕ) → i < n
+    → (Inside row (row + length a) c0 c1 i j → ⊥)
     → reflected sum a s n row c0 c1 t ! place n i j ≡ t ! place n i j
 unfolding reflected
 reflected-frame sum a s n row c0 c1 t i j l out = onEntries-frame _ _ _ _ _ _ _ i j l out

@@ -26,12 +26,14 @@ module _ (a : List Float) (s : Float) (n k : ℕ) (h : n ≤ 64) (fit : k + leng
   unfolding reflected mirroredColumns down
   columns-alike c0 c1 d0 d1 t u i j size size' c d l to from same =
       onEntries-alike n k (k + length a) c0 c1 d0 d1 _ _ t u i j h size size' fit c d l to from (same i l)
-      (ap (λ x. x ⊗ (s ⊗ minusTwo) ⊗ (a ! (i - k)) ⊕ s ⊗ (t ! place n i j)) (bare-same (length a) _ _ (λ r b. ap (λ x. (a ! r) ⊗ x) (same (k + r) (omega arith))))
+      (ap (λ x. x ⊗ (s ⊗ minusTwo) ⊗ (a ! (i - k)) ⊕ s ⊗ (t ! place n i j))
+      (bare-same (length a) _ _ (λ r b. ap (λ x. (a ! r) ⊗ x) (same (k + r) (omega arith))))
       ∙ ap (λ x. down bare a n k u j ⊗ (s ⊗ minusTwo) ⊗ (a ! (i - k)) ⊕ s ⊗ x) (same i l))
 
   -- a row that two matrices have in common, to the last column that its reflection reads
   rows-alike : (rows : ℕ) (t u : List Float) (i j : ℕ) → length t ≡ n * n → length u ≡ n * n → rows ≤ n → i < n → j < k + length a
-      → ((c : ℕ) → c < k + length a → t ! place n i c ≡ u ! place n i c) → reflectedRows a s n rows k t ! place n i j ≡ reflectedRows a s n rows k u ! place n i j
+      → ((c : ℕ) → c < k + length a → t ! place n i c ≡ u ! place n i c)
+      → reflectedRows a s n rows k t ! place n i j ≡ reflectedRows a s n rows k u ! place n i j
   unfolding reflectedRows mirroredRows along
   rows-alike rows t u i j size size' r l q same =
       onEntries-alike n 0 rows k (k + length a) k (k + length a) _ _ t u i j h size size' r fit fit l (λ o. o) (λ o. o) (same j q)
@@ -71,11 +73,14 @@ module _ (a : List Float) (s : Float) (n k : ℕ) (h : n ≤ 64) (fit : k + leng
 
     pub near-first : reflected bare a s n k (k + length a) n turned ≡ reflectedRows a s n rows k whole
     near-first =
-        same-entries n (reflected bare a s n k (k + length a) n turned) (reflectedRows a s n rows k whole) (reflected-length bare a s n k (k + length a) n turned ∙ size-turned)
+        same-entries n (reflected bare a s n k (k + length a) n turned) (reflectedRows a s n rows k whole)
+        (reflected-length bare a s n k (k + length a) n turned ∙ size-turned)
         (reflectedRows-length a s n rows k whole ∙ size-whole) (λ i j l m. cases i j l (decLt j (k + length a)))
       where
-        cases : (i j : ℕ) → i < n → Dec (j < k + length a) → reflected bare a s n k (k + length a) n turned ! place n i j ≡ reflectedRows a s n rows k whole ! place n i j
+        cases : (i j : ℕ) → i < n → Dec (j < k + length a) → reflected bare a s n k (k + length a) n turned ! place n i j
+            ≡ reflectedRows a s n rows k whole ! place n i j
         cases i j l (yes b) = reflected-frame bare a s n k (k + length a) n turned i j l (λ o. omega arith) ∙ turned-alike i j l b
         cases i j l (no b) =
-            columns-alike (k + length a) n k n turned t i j size-turned size (omega arith) (omega arith) l (λ o. omega arith) (λ o. omega arith) (λ i' l'. unturned i' j l' (omega arith))
+            columns-alike (k + length a) n k n turned t i j size-turned size (omega arith) (omega arith) l (λ o. omega arith) (λ o. omega arith)
+            (λ i' l'. unturned i' j l' (omega arith))
             ∙ sym (reflectedRows-frame a s n rows k whole i j l (λ o. omega arith))

@@ -21,7 +21,8 @@ pub record Summing {A : Type 0} (f : ℕ → A) (a : List Float) (end j : ℕ) (
 pub summing-begun : {A : Type 0} {f : ℕ → A} {a : List Float} {end : ℕ} {w : A} → end ≡ length a → 1 ≤ end → w ≡ f 1 → Summing f a end 1 w
 summing-begun e h s = record { whole = e; from = omega arith; within = h; sum = s }
 
-pub summing-more : {A : Type 0} {f : ℕ → A} {a : List Float} {end j : ℕ} {w u : A} → Summing f a end j w → j < end → (w ≡ f j → 1 ≤ j → u ≡ f (j + 1)) → Summing f a end (j + 1) u
+pub summing-more : {A : Type 0} {f : ℕ → A} {a : List Float} {end j : ℕ} {w u : A} → Summing f a end j w → j < end → (w ≡ f j → 1 ≤ j → u ≡ f (j + 1))
+    → Summing f a end (j + 1) u
 summing-more inv h s = record { whole = inv .whole; from = omega arith; within = omega arith; sum = s (inv .sum) (inv .from) }
 
 pub summing-done : {A : Type 0} {f : ℕ → A} {a : List Float} {end j : ℕ} {w : A} → Summing f a end j w → end ≤ j → w ≡ f (length a)
@@ -36,10 +37,13 @@ pub record Putting (a : List Float) (s : Float) (n i k c0 : ℕ) (t₀ : List Fl
   pub done : t ≡ inBlock n i k c0 (c0 + j) (mirroredRows a s n c0 t₀) t₀
 
 pub putting-begun : {a : List Float} {s : Float} {n i k c0 : ℕ} {t : List Float} {end : ℕ} → end ≡ length a → length t ≡ n * n → Putting a s n i k c0 t end 0 t
-putting-begun {a} {s} {n} {i} {k} {c0} {t} e h = record { whole = e; within = omega arith; size = h; done = rw add-zero (sym (inBlock-no-columns n i k c0 (mirroredRows a s n c0 t) t)) }
+putting-begun {a} {s} {n} {i} {k} {c0} {t} e h =
+    record { whole = e; within = omega arith; size = h; done = rw add-zero (sym (inBlock-no-columns n i k c0 (mirroredRows a s n c0 t) t)) }
 
-pub putting-more : {a : List Float} {s : Float} {n i k c0 : ℕ} {t₀ : List Float} {end j : ℕ} {t u : List Float} → Putting a s n i k c0 t₀ end j t → j < end → length u ≡ n * n
-    → (t ≡ inBlock n i k c0 (c0 + j) (mirroredRows a s n c0 t₀) t₀ → u ≡ inBlock n i k c0 (c0 + (j + 1)) (mirroredRows a s n c0 t₀) t₀) → Putting a s n i k c0 t₀ end (j + 1) u
+pub putting-more : {a : List Float} {s : Float} {n i k c0 : ℕ} {t₀ : List Float} {end j : ℕ} {t u : List Float} → Putting a s n i k c0 t₀ end j t → j < end
+    → length u ≡ n * n
+    → (t ≡ inBlock n i k c0 (c0 + j) (mirroredRows a s n c0 t₀) t₀ → u ≡ inBlock n i k c0 (c0 + (j + 1)) (mirroredRows a s n c0 t₀) t₀)
+    → Putting a s n i k c0 t₀ end (j + 1) u
 putting-more inv h l turn = record { whole = inv .whole; within = omega arith; size = l; done = turn (inv .done) }
 
 pub putting-done : {a : List Float} {s : Float} {n i k c0 : ℕ} {t₀ : List Float} {end j : ℕ} {t : List Float} → Putting a s n i k c0 t₀ end j t → end ≤ j

@@ -22,7 +22,8 @@ pub along-one : (a : List Float) (n c0 : ℕ) (t : List Float) (i : ℕ) → (t 
 unfolding along-to
 along-one a n c0 t i = rw (bare-one, add-zero)
 
-pub along-more : (j : ℕ) (a : List Float) (n c0 : ℕ) (t : List Float) (i : ℕ) → 1 ≤ j → along-to (j + 1) a n c0 t i ≡ along-to j a n c0 t i ⊕ (t ! place n i (c0 + j)) ⊗ (a ! j)
+pub along-more : (j : ℕ) (a : List Float) (n c0 : ℕ) (t : List Float) (i : ℕ) → 1 ≤ j
+    → along-to (j + 1) a n c0 t i ≡ along-to j a n c0 t i ⊕ (t ! place n i (c0 + j)) ⊗ (a ! j)
 unfolding along-to
 along-more j a n c0 t i h = bare-more j _ h
 
@@ -38,9 +39,11 @@ pub four-one : (a : List Float) (n c0 : ℕ) (t : List Float) (i : ℕ) → four
 unfolding four-to
 four-one a n c0 t i = simp (add-assoc, along-one)
 
-pub four-more : (j : ℕ) (a : List Float) (n c0 : ℕ) (t : List Float) (i : ℕ) → 1 ≤ j → fourPlus t (place n i (c0 + j)) (a ! j) (four-to j a n c0 t i) ≡ four-to (j + 1) a n c0 t i
+pub four-more : (j : ℕ) (a : List Float) (n c0 : ℕ) (t : List Float) (i : ℕ) → 1 ≤ j
+    → fourPlus t (place n i (c0 + j)) (a ! j) (four-to j a n c0 t i) ≡ four-to (j + 1) a n c0 t i
 unfolding four-to
-four-more j a n c0 t i h = rw (along-more j a n c0 t i h, along-more j a n c0 t (i + 1) h, along-more j a n c0 t (i + 2) h, along-more j a n c0 t (i + 3) h) (simp add-assoc)
+four-more j a n c0 t i h =
+    rw (along-more j a n c0 t i h, along-more j a n c0 t (i + 1) h, along-more j a n c0 t (i + 2) h, along-more j a n c0 t (i + 3) h) (simp add-assoc)
 
 pub four-done : (j : ℕ) (a : List Float) (n c0 : ℕ) (t : List Float) (i : ℕ) → j ≡ length a → four-to j a n c0 t i ≡ fourAlong a n c0 t i
 unfolding four-to along-to fourAlong along
@@ -54,7 +57,8 @@ pub eight-one : (a : List Float) (n c0 : ℕ) (t : List Float) (i : ℕ) → eig
 unfolding eight-to
 eight-one a n c0 t i = rw (add-assoc (c0 * n) i 4, four-one a n c0 t i, four-one a n c0 t (i + 4))
 
-pub eight-more : (j : ℕ) (a : List Float) (n c0 : ℕ) (t : List Float) (i : ℕ) → 1 ≤ j → eightPlus t (place n i (c0 + j)) (a ! j) (eight-to j a n c0 t i) ≡ eight-to (j + 1) a n c0 t i
+pub eight-more : (j : ℕ) (a : List Float) (n c0 : ℕ) (t : List Float) (i : ℕ) → 1 ≤ j
+    → eightPlus t (place n i (c0 + j)) (a ! j) (eight-to j a n c0 t i) ≡ eight-to (j + 1) a n c0 t i
 unfolding eight-to
 eight-more j a n c0 t i h = rw (add-assoc ((c0 + j) * n) i 4, four-more j a n c0 t i h, four-more j a n c0 t (i + 4) h)
 

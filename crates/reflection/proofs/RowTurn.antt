@@ -86,7 +86,8 @@ column-put a s n i c0 j t₀ t h =
     (four-by-rule n i (c0 + j) (mirroredRows a s n c0 t₀) t _ _ _ _ h (rw k) (rw k) (rw k) (rw k))
 
 -- column j, behind those before it
-column-behind : (n r0 r1 c0 j : ℕ) (g : Rule) (t₀ t u : List Float) → u ≡ range (atEntry n g (c0 + j)) r0 r1 t → t ≡ inBlock n r0 r1 c0 (c0 + j) g t₀ → u ≡ inBlock n r0 r1 c0 (c0 + (j + 1)) g t₀
+column-behind : (n r0 r1 c0 j : ℕ) (g : Rule) (t₀ t u : List Float) → u ≡ range (atEntry n g (c0 + j)) r0 r1 t → t ≡ inBlock n r0 r1 c0 (c0 + j) g t₀
+    → u ≡ inBlock n r0 r1 c0 (c0 + (j + 1)) g t₀
 column-behind n r0 r1 c0 j g t₀ t u d e =
     rw (← add-assoc c0 j 1) (d ∙ ap (range (atEntry n g (c0 + j)) r0 r1) e ∙ sym (inBlock-column n r0 r1 c0 (c0 + j) g t₀ (omega arith)))
 
@@ -112,7 +113,8 @@ eight-turn a s n i c0 j t₀ t h e =
 
 -- one row
 pub one-turn : (a : List Float) (s : Float) (n i c0 j : ℕ) (t₀ t : List Float) → t ≡ inBlock n i (i + 1) c0 (c0 + j) (mirroredRows a s n c0 t₀) t₀
-    → set t (place n i (c0 + j)) (s ⊗ minusTwo ⊗ (a ! j) ⊗ along a n c0 t₀ i ⊕ s ⊗ (t ! place n i (c0 + j))) ≡ inBlock n i (i + 1) c0 (c0 + (j + 1)) (mirroredRows a s n c0 t₀) t₀
+    → set t (place n i (c0 + j)) (s ⊗ minusTwo ⊗ (a ! j) ⊗ along a n c0 t₀ i ⊕ s ⊗ (t ! place n i (c0 + j)))
+    ≡ inBlock n i (i + 1) c0 (c0 + (j + 1)) (mirroredRows a s n c0 t₀) t₀
 unfolding mirroredRows
 one-turn a s n i c0 j t₀ t e =
     let k : c0 + j - c0 ≡ j = omega arith in

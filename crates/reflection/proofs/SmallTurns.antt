@@ -30,8 +30,10 @@ column-two v s p q t =
     let f = (v .x ⊗ (t ! p) ⊕ v .y ⊗ (t ! q)) ⊗ (s ⊗ minusTwo) in
     set (set t p (f ⊗ v .x ⊕ s ⊗ (t ! p))) q (f ⊗ v .y ⊕ s ⊗ (t ! q))
 
-pub turn-down-three : (v : Vector3) (s : Float) (n row c0 j : ℕ) (t₀ t : List Float) → row + 3 ≤ n → c0 ≤ j → t ≡ inBlock n row (row + 3) c0 j (mirroredColumns bare (list3 v) s n row t₀) t₀
-    → column-three v s (place n row j) (place n row j + 1) (place n row j + 2) t ≡ inBlock n row (row + 3) c0 (j + 1) (mirroredColumns bare (list3 v) s n row t₀) t₀
+pub turn-down-three : (v : Vector3) (s : Float) (n row c0 j : ℕ) (t₀ t : List Float) → row + 3 ≤ n → c0 ≤ j
+    → t ≡ inBlock n row (row + 3) c0 j (mirroredColumns bare (list3 v) s n row t₀) t₀
+    → column-three v s (place n row j) (place n row j + 1) (place n row j + 2) t
+    ≡ inBlock n row (row + 3) c0 (j + 1) (mirroredColumns bare (list3 v) s n row t₀) t₀
 unfolding mirroredColumns down bare
 turn-down-three v s n row c0 j t₀ t h k e =
     let g = mirroredColumns bare (list3 v) s n row t₀ in
@@ -44,7 +46,8 @@ turn-down-three v s n row c0 j t₀ t h k e =
     rw (add-assoc (j * n) row 1, add-assoc (j * n) row 2)
     (down-three n row c0 j g t₀ t _ _ _ h k e (rw (first, a, b, d, add-zero)) (rw (second, a, b, d, add-zero)) (rw (third, a, b, d, add-zero)))
 
-pub turn-down-two : (v : Vector2) (s : Float) (n row c0 j : ℕ) (t₀ t : List Float) → row + 2 ≤ n → c0 ≤ j → t ≡ inBlock n row (row + 2) c0 j (mirroredColumns bare (list2 v) s n row t₀) t₀
+pub turn-down-two : (v : Vector2) (s : Float) (n row c0 j : ℕ) (t₀ t : List Float) → row + 2 ≤ n → c0 ≤ j
+    → t ≡ inBlock n row (row + 2) c0 j (mirroredColumns bare (list2 v) s n row t₀) t₀
     → column-two v s (place n row j) (place n row j + 1) t ≡ inBlock n row (row + 2) c0 (j + 1) (mirroredColumns bare (list2 v) s n row t₀) t₀
 unfolding mirroredColumns down bare
 turn-down-two v s n row c0 j t₀ t h k e =
@@ -67,7 +70,8 @@ row-two v s p q t =
     let w = (t ! p) ⊗ v .x ⊕ (t ! q) ⊗ v .y in
     set (set t p (s ⊗ minusTwo ⊗ v .x ⊗ w ⊕ s ⊗ (t ! p))) q (s ⊗ minusTwo ⊗ v .y ⊗ w ⊕ s ⊗ (t ! q))
 
-pub turn-across-three : (v : Vector3) (s : Float) (n i c0 : ℕ) (t₀ t : List Float) → length t₀ ≡ n * n → i < n → c0 + 3 ≤ n → t ≡ inBlock n 0 i c0 (c0 + 3) (mirroredRows (list3 v) s n c0 t₀) t₀
+pub turn-across-three : (v : Vector3) (s : Float) (n i c0 : ℕ) (t₀ t : List Float) → length t₀ ≡ n * n → i < n → c0 + 3 ≤ n
+    → t ≡ inBlock n 0 i c0 (c0 + 3) (mirroredRows (list3 v) s n c0 t₀) t₀
     → row-three v s (place n i c0) (place n i (c0 + 1)) (place n i (c0 + 2)) t ≡ inBlock n 0 (i + 1) c0 (c0 + 3) (mirroredRows (list3 v) s n c0 t₀) t₀
 unfolding mirroredRows along bare
 turn-across-three v s n i c0 t₀ t size h l e =
@@ -80,7 +84,8 @@ turn-across-three v s n i c0 t₀ t size h l e =
     let third : c0 + 2 - c0 ≡ 2 = omega arith in
     across-three n i c0 g t₀ t _ _ _ size h l e (rw (first, a, b, d, add-zero)) (rw (second, a, b, d, add-zero)) (rw (third, a, b, d, add-zero))
 
-pub turn-across-two : (v : Vector2) (s : Float) (n i c0 : ℕ) (t₀ t : List Float) → length t₀ ≡ n * n → i < n → c0 + 2 ≤ n → t ≡ inBlock n 0 i c0 (c0 + 2) (mirroredRows (list2 v) s n c0 t₀) t₀
+pub turn-across-two : (v : Vector2) (s : Float) (n i c0 : ℕ) (t₀ t : List Float) → length t₀ ≡ n * n → i < n → c0 + 2 ≤ n
+    → t ≡ inBlock n 0 i c0 (c0 + 2) (mirroredRows (list2 v) s n c0 t₀) t₀
     → row-two v s (place n i c0) (place n i (c0 + 1)) t ≡ inBlock n 0 (i + 1) c0 (c0 + 2) (mirroredRows (list2 v) s n c0 t₀) t₀
 unfolding mirroredRows along bare
 turn-across-two v s n i c0 t₀ t size h l e =

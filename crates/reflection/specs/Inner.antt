@@ -1,4 +1,5 @@
--- What the private functions of the kernels do. Nothing here need be believed: the public contracts cite `Reflected` alone.
+-- What the private functions of the kernels do. Nothing here need be believed: the public contracts cite `Reflected`
+-- alone.
 use Prim.Native.Nat.{ℕ, _+_}
 use mathlib.Core.List.{List}
 use lib.ListN.{length, set}
@@ -27,12 +28,14 @@ fourPlus t p x w =
 
 -- the rows from i to i + 3 times a
 unfoldable pub fourAlong : (a : List Float) → (n c0 : ℕ) → (t : List Float) → (i : ℕ) → Four
-fourAlong a n c0 t i = four (along a n c0 t i) (along a n c0 t (i + 1)) (along a n c0 t (i + 2)) (along a n c0 t (i + 3))
+fourAlong a n c0 t i =
+    four (along a n c0 t i) (along a n c0 t (i + 1)) (along a n c0 t (i + 2)) (along a n c0 t (i + 3))
 
 -- the four numbers of t from p on: f times the row's sum, plus s times what stands
 abbrev pub fourPut : Float → Four → Float → ℕ → List Float → List Float
 fourPut f w s p t =
-    set (set (set (set t p (f ⊗ w .w0 ⊕ s ⊗ (t ! p))) (p + 1) (f ⊗ w .w1 ⊕ s ⊗ (t ! (p + 1)))) (p + 2) (f ⊗ w .w2 ⊕ s ⊗ (t ! (p + 2)))) (p + 3) (f ⊗ w .w3 ⊕ s ⊗ (t ! (p + 3)))
+    set (set (set (set t p (f ⊗ w .w0 ⊕ s ⊗ (t ! p))) (p + 1) (f ⊗ w .w1 ⊕ s ⊗ (t ! (p + 1)))) (p + 2)
+    (f ⊗ w .w2 ⊕ s ⊗ (t ! (p + 2)))) (p + 3) (f ⊗ w .w3 ⊕ s ⊗ (t ! (p + 3)))
 
 -- the same for eight rows, as the upper four and the lower
 abbrev pub eightTimes : List Float → ℕ → Float → Eight

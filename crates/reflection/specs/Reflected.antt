@@ -1,5 +1,6 @@
--- What a reflection does to a block of a matrix of order n (docs/SUMS.md, section 4). The axis is a list a; the sign s is 1 where none is named.
--- Sums with a column of run-time length go by `lanes`, with one of two or three by `bare`; sums along a row always go by `bare`.
+-- What a reflection does to a block of a matrix of order n (docs/SUMS.md, section 4). The axis is a list a; the sign s
+-- is 1 where none is named. Sums with a column of run-time length go by `lanes`, with one of two or three by `bare`;
+-- sums along a row always go by `bare`.
 use Prim.Native.Nat.{ℕ, _+_, _-_}
 use mathlib.Core.List.{List}
 use lib.ListN.{length}
@@ -15,7 +16,8 @@ use Rattle.matrix.specs.Product.{along}
 unfoldable pub down : Order → (a : List Float) → (n row : ℕ) → (t : List Float) → (j : ℕ) → Float
 down sum a n row t j = sum (length a) (λ k. (a ! k) ⊗ (t ! place n (row + k) j))
 
--- Each column by itself: with d the axis times the column, an entry x beside the axis's number a_i becomes (d * (s * -2)) * a_i + s * x.
+-- Each column by itself: with d the axis times the column, an entry x beside the axis's number a_i becomes (d * (s *
+-- -2)) * a_i + s * x.
 unfoldable pub mirroredColumns : Order → (a : List Float) → (s : Float) → (n row : ℕ) → (t : List Float) → Rule
 mirroredColumns sum a s n row t i j x = down sum a n row t j ⊗ (s ⊗ minusTwo) ⊗ (a ! (i - row)) ⊕ s ⊗ x
 
@@ -23,7 +25,8 @@ mirroredColumns sum a s n row t i j x = down sum a n row t j ⊗ (s ⊗ minusTwo
 unfoldable pub reflected : Order → (a : List Float) → (s : Float) → (n row c0 c1 : ℕ) → (t : List Float) → List Float
 reflected sum a s n row c0 c1 t = onEntries n row (row + length a) c0 c1 (mirroredColumns sum a s n row t) t
 
--- Each row by itself: with w the row times the axis, an entry x beside the axis's number a_j becomes ((s * -2) * a_j) * w + s * x.
+-- Each row by itself: with w the row times the axis, an entry x beside the axis's number a_j becomes ((s * -2) * a_j) *
+-- w + s * x.
 unfoldable pub mirroredRows : (a : List Float) → (s : Float) → (n c0 : ℕ) → (t : List Float) → Rule
 mirroredRows a s n c0 t i j x = s ⊗ minusTwo ⊗ (a ! (j - c0)) ⊗ along a n c0 t i ⊕ s ⊗ x
 

@@ -8,7 +8,8 @@ ghost use Rattle.loops.specs.Constants.{one};
 ghost use Rattle.matrix.specs.Entries.{inBlock};
 ghost use Rattle.matrix.specs.Product.{along};
 ghost use Rattle.reflection.specs.Reflected.{mirroredRows, reflectedRows};
-ghost use Rattle.reflection.specs.Inner.{fourTimes, fourPlus, fourPut, fourAlong, eightTimes, eightPlus, eightPut, eightAlong};
+ghost use Rattle.reflection.specs.Inner.{fourTimes, fourPlus, fourPut, fourAlong, eightTimes, eightPlus};
+ghost use Rattle.reflection.specs.Inner.{eightPut, eightAlong};
 
 // The sums of four rows.
 struct Four {
@@ -121,7 +122,8 @@ fn put_four(t: &mut [f64], p: usize, factor: f64, w: Four, sign: f64)
 fn four_rows(a: &[f64], t: &mut [f64], n: usize, i: usize, c0: usize, sign: f64)
     requires { ⌜ (n ≤ 64) × (length (now t) ≡ n * n) × (i + 4 ≤ n) × (c0 + length (now a) ≤ n) × (0 < length (now a)) ⌝ }
     ensures { λ _.
-        ⌜ now (t .exit) ≡ inBlock n i (i + 4) c0 (c0 + length (now (a .entry))) (mirroredRows (now (a .entry)) sign n c0 (now (t .entry))) (now (t .entry)) ⌝ }
+        ⌜ now (t .exit) ≡ inBlock n i (i + 4) c0 (c0 + length (now (a .entry)))
+        (mirroredRows (now (a .entry)) sign n c0 (now (t .entry))) (now (t .entry)) ⌝ }
 {
     let w = sums_of_four(a, t, n, i, c0);
     let m_two = sign * -2.0;
@@ -146,7 +148,8 @@ fn put_eight(t: &mut [f64], p: usize, factor: f64, w: Eight, sign: f64)
 fn eight_rows(a: &[f64], t: &mut [f64], n: usize, i: usize, c0: usize, sign: f64)
     requires { ⌜ (n ≤ 64) × (length (now t) ≡ n * n) × (i + 8 ≤ n) × (c0 + length (now a) ≤ n) × (0 < length (now a)) ⌝ }
     ensures { λ _.
-        ⌜ now (t .exit) ≡ inBlock n i (i + 8) c0 (c0 + length (now (a .entry))) (mirroredRows (now (a .entry)) sign n c0 (now (t .entry))) (now (t .entry)) ⌝ }
+        ⌜ now (t .exit) ≡ inBlock n i (i + 8) c0 (c0 + length (now (a .entry)))
+        (mirroredRows (now (a .entry)) sign n c0 (now (t .entry))) (now (t .entry)) ⌝ }
 {
     let w = sums_of_eight(a, t, n, i, c0);
     let m_two = sign * -2.0;
@@ -174,7 +177,8 @@ fn sum(a: &[f64], t: &[f64], n: usize, i: usize, c0: usize) -> f64
 fn one_row(a: &[f64], t: &mut [f64], n: usize, i: usize, c0: usize, sign: f64)
     requires { ⌜ (n ≤ 64) × (length (now t) ≡ n * n) × (i < n) × (c0 + length (now a) ≤ n) × (0 < length (now a)) ⌝ }
     ensures { λ _.
-        ⌜ now (t .exit) ≡ inBlock n i (i + 1) c0 (c0 + length (now (a .entry))) (mirroredRows (now (a .entry)) sign n c0 (now (t .entry))) (now (t .entry)) ⌝ }
+        ⌜ now (t .exit) ≡ inBlock n i (i + 1) c0 (c0 + length (now (a .entry)))
+        (mirroredRows (now (a .entry)) sign n c0 (now (t .entry))) (now (t .entry)) ⌝ }
 {
     let w = sum(a, t, n, i, c0);
     let m_two = sign * -2.0;
@@ -186,9 +190,11 @@ fn one_row(a: &[f64], t: &mut [f64], n: usize, i: usize, c0: usize, sign: f64)
 
 // Eight rows at a time, as many times as `eights` says.
 fn rows_by_eight(a: &[f64], t: &mut [f64], n: usize, eights: usize, c0: usize, sign: f64)
-    requires { ⌜ (n ≤ 64) × (length (now t) ≡ n * n) × (eights * 8 ≤ n) × (c0 + length (now a) ≤ n) × (0 < length (now a)) ⌝ }
+    requires { ⌜ (n ≤ 64) × (length (now t) ≡ n * n) × (eights * 8 ≤ n) × (c0 + length (now a) ≤ n)
+        × (0 < length (now a)) ⌝ }
     ensures { λ _.
-        ⌜ now (t .exit) ≡ inBlock n 0 (eights * 8) c0 (c0 + length (now (a .entry))) (mirroredRows (now (a .entry)) sign n c0 (now (t .entry))) (now (t .entry)) ⌝ }
+        ⌜ now (t .exit) ≡ inBlock n 0 (eights * 8) c0 (c0 + length (now (a .entry)))
+        (mirroredRows (now (a .entry)) sign n c0 (now (t .entry))) (now (t .entry)) ⌝ }
 {
     for b in 0..eights {
         eight_rows(a, t, n, b * 8, c0, sign);
@@ -197,9 +203,11 @@ fn rows_by_eight(a: &[f64], t: &mut [f64], n: usize, eights: usize, c0: usize, s
 
 // The rows from `from` to below `to`, one by one.
 fn rows_by_one(a: &[f64], t: &mut [f64], n: usize, from: usize, to: usize, c0: usize, sign: f64)
-    requires { ⌜ (n ≤ 64) × (length (now t) ≡ n * n) × (from ≤ to) × (to ≤ n) × (c0 + length (now a) ≤ n) × (0 < length (now a)) ⌝ }
+    requires { ⌜ (n ≤ 64) × (length (now t) ≡ n * n) × (from ≤ to) × (to ≤ n) × (c0 + length (now a) ≤ n)
+        × (0 < length (now a)) ⌝ }
     ensures { λ _.
-        ⌜ now (t .exit) ≡ inBlock n from to c0 (c0 + length (now (a .entry))) (mirroredRows (now (a .entry)) sign n c0 (now (t .entry))) (now (t .entry)) ⌝ }
+        ⌜ now (t .exit) ≡ inBlock n from to c0 (c0 + length (now (a .entry)))
+        (mirroredRows (now (a .entry)) sign n c0 (now (t .entry))) (now (t .entry)) ⌝ }
 {
     for i in from..to {
         one_row(a, t, n, i, c0, sign);
@@ -208,9 +216,11 @@ fn rows_by_one(a: &[f64], t: &mut [f64], n: usize, from: usize, to: usize, c0: u
 
 // The same, four at once where as many are left.
 fn rows_left(a: &[f64], t: &mut [f64], n: usize, from: usize, to: usize, c0: usize, sign: f64)
-    requires { ⌜ (n ≤ 64) × (length (now t) ≡ n * n) × (from ≤ to) × (to ≤ n) × (c0 + length (now a) ≤ n) × (0 < length (now a)) ⌝ }
+    requires { ⌜ (n ≤ 64) × (length (now t) ≡ n * n) × (from ≤ to) × (to ≤ n) × (c0 + length (now a) ≤ n)
+        × (0 < length (now a)) ⌝ }
     ensures { λ _.
-        ⌜ now (t .exit) ≡ inBlock n from to c0 (c0 + length (now (a .entry))) (mirroredRows (now (a .entry)) sign n c0 (now (t .entry))) (now (t .entry)) ⌝ }
+        ⌜ now (t .exit) ≡ inBlock n from to c0 (c0 + length (now (a .entry)))
+        (mirroredRows (now (a .entry)) sign n c0 (now (t .entry))) (now (t .entry)) ⌝ }
 {
     if to - from < 4 {
         rows_by_one(a, t, n, from, to, c0, sign);

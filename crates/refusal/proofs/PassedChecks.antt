@@ -135,7 +135,8 @@ pub only-entries : (P : Refusal → Type 0) (n : ℕ) (m : List Float) → ((p :
 unfolding entryChecks
 only-entries P n m h = only-at P _ _ h
 
-pub only-given : (P : Refusal → Type 0) (lengths : Checked) (n : ℕ) (m : List Float) → P OrderZero → P OrderTooLarge → Only P lengths → ((p : Place) → P (EntryNotFinite p))
+pub only-given : (P : Refusal → Type 0) (lengths : Checked) (n : ℕ) (m : List Float) → P OrderZero → P OrderTooLarge → Only P lengths
+    → ((p : Place) → P (EntryNotFinite p))
     → Only P (givenChecks lengths n m)
 unfolding givenChecks
 only-given P lengths n m zero large lent entry = only-next P _ _ (only-order P n zero large) (only-next P _ _ lent (only-entries P n m entry))

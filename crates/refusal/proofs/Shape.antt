@@ -44,7 +44,8 @@ module _ (n : ℕ) (t : List Float) where
   pub finite-nowhere : AllFinite n t → firstNotFinite n t ≡ Nowhere
   unfolding firstNotFinite notFinite
   finite-nowhere f =
-      cond-hold (λ x. x ≡ Nowhere) (blockFits n (length t) n n) (firstPlace (notFinite n t) n) Nowhere (λ _. none-nowhere (notFinite n t) n (λ i j k l. ap not (f i j k l))) refl
+      cond-hold (λ x. x ≡ Nowhere) (blockFits n (length t) n n) (firstPlace (notFinite n t) n) Nowhere
+      (λ _. none-nowhere (notFinite n t) n (λ i j k l. ap not (f i j k l))) refl
 
   -- ---- quasi-triangular
 
@@ -75,4 +76,5 @@ module _ (n : ℕ) (t : List Float) where
 
   pub shape-nowhere : QuasiTriangular n t → firstSpoiling n t ≡ Nowhere
   unfolding firstSpoiling
-  shape-nowhere s = cond-hold (λ x. x ≡ Nowhere) (blockFits n (length t) n n) (firstPlace (spoils n t) n) Nowhere (λ _. none-nowhere (spoils n t) n (λ i j h _. shape-none s i j h)) refl
+  shape-nowhere s = cond-hold (λ x. x ≡ Nowhere) (blockFits n (length t) n n) (firstPlace (spoils n t) n) Nowhere
+      (λ _. none-nowhere (spoils n t) n (λ i j h _. shape-none s i j h)) refl

@@ -27,7 +27,8 @@ unfolding spoils
 spoils-above n t i j h = rw (lt-leb (j + 2) i (omega arith), ne-eqb i (j + 1) (λ e. omega arith), neither)
 
 -- just below it: one that is not 0, behind another such
-pub spoils-just : (n : ℕ) (t : List Float) (j : ℕ) → spoils n t (j + 1) j ≡ not (isZero (t ! place n (j + 1) j)) && (leb 1 j && not (isZero (t ! place n j (j - 1))))
+pub spoils-just : (n : ℕ) (t : List Float) (j : ℕ) → spoils n t (j + 1) j ≡ not (isZero (t ! place n (j + 1) j))
+    && (leb 1 j && not (isZero (t ! place n j (j - 1))))
 unfolding spoils
 spoils-just n t j = rw (lt-leb (j + 2) (j + 1) (omega arith), eq-eqb (j + 1) (j + 1) refl)
 
@@ -44,7 +45,8 @@ just-zero n t j h = rw (spoils-just, h)
 pub just-first : (n : ℕ) (t : List Float) (j : ℕ) → j ≡ 0 → false ≡ spoils n t (j + 1) j
 just-first n t j h = rw (spoils-just, lt-leb 1 j (omega arith), neither)
 
-pub just-behind : (n : ℕ) (t : List Float) (j : ℕ) → isZero (t ! place n (j + 1) j) ≡ false → 1 ≤ j → not (isZero (t ! place n j (j - 1))) ≡ spoils n t (j + 1) j
+pub just-behind : (n : ℕ) (t : List Float) (j : ℕ) → isZero (t ! place n (j + 1) j) ≡ false → 1 ≤ j
+    → not (isZero (t ! place n j (j - 1))) ≡ spoils n t (j + 1) j
 just-behind n t j h k = rw (spoils-just, h, le-leb 1 j k)
 
 -- ---- the first row of column j that does: none of a column of one row; the one just below; else one further below
@@ -62,7 +64,8 @@ below n t j l = sym (first-past _ n 0 (j + 1) (omega arith) (omega arith) (λ i 
 pub row-just : (n : ℕ) (t : List Float) (j : ℕ) → j + 1 < n → spoils n t (j + 1) j ≡ true → j + 1 ≡ firstRow (spoils n t) n j
 row-just n t j l h = sym (first-here (λ i. spoils n t i j) n (j + 1) h) ∙ below n t j l
 
-pub row-far : (n : ℕ) (t : List Float) (j : ℕ) → j + 1 < n → spoils n t (j + 1) j ≡ false → firstFrom (λ i. spoils n t i j) n (j + 2) ≡ firstRow (spoils n t) n j
+pub row-far : (n : ℕ) (t : List Float) (j : ℕ) → j + 1 < n → spoils n t (j + 1) j ≡ false
+    → firstFrom (λ i. spoils n t i j) n (j + 2) ≡ firstRow (spoils n t) n j
 row-far n t j l h =
     let e : j + 1 + 1 ≡ j + 2 = omega arith in
     ap (firstFrom (λ i. spoils n t i j) n) (sym e) ∙ sym (first-on (λ i. spoils n t i j) n (j + 1) l h) ∙ below n t j l

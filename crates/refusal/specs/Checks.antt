@@ -6,7 +6,8 @@ use mathlib.Core.List.{List}
 use lib.Dec.{eqb, ltb}
 use lib.Ieee.{Float}
 use Rattle.refusal.specs.declared.refusal.Refusal.{Refusal}
-use Rattle.refusal.specs.declared.refusal.Refusal.the-variants.{OrderZero, OrderTooLarge, WrongLength, EntryNotFinite}
+use Rattle.refusal.specs.declared.refusal.Refusal.the-variants.{OrderZero, OrderTooLarge, WrongLength}
+use Rattle.refusal.specs.declared.refusal.Refusal.the-variants.{EntryNotFinite}
 use Rattle.refusal.specs.declared.refusal.Checked.{Checked}
 use Rattle.refusal.specs.declared.refusal.Checked.the-variants.{Passed}
 use Rattle.refusal.specs.Refusal.{refuse, refuseAt, _next_}

@@ -3,7 +3,11 @@ use Prim.Native.Nat.{ℕ}
 use mathlib.Core.Bool.{Bool, cond}
 use Rattle.refusal.specs.declared.refusal.Place.{Place}
 use Rattle.refusal.specs.declared.refusal.Refusal.{Refusal}
-use Rattle.refusal.specs.declared.refusal.Refusal.the-variants.{OrderZero, OrderTooLarge, WrongLength, ToleranceOutside, BudgetOutside, EntryNotFinite, BudgetReached, ResultNotFinite, ShapeSpoiled, ComplexEigenvalues, BlockNotComplex, InputCutShort, UnknownKind, InputLengthWrong}
+use Rattle.refusal.specs.declared.refusal.Refusal.the-variants.{OrderZero, OrderTooLarge, WrongLength}
+use Rattle.refusal.specs.declared.refusal.Refusal.the-variants.{ToleranceOutside, BudgetOutside, EntryNotFinite}
+use Rattle.refusal.specs.declared.refusal.Refusal.the-variants.{BudgetReached, ResultNotFinite, ShapeSpoiled}
+use Rattle.refusal.specs.declared.refusal.Refusal.the-variants.{ComplexEigenvalues, BlockNotComplex}
+use Rattle.refusal.specs.declared.refusal.Refusal.the-variants.{InputCutShort, UnknownKind, InputLengthWrong}
 use Rattle.refusal.specs.declared.refusal.Told.{Told}
 use Rattle.refusal.specs.declared.refusal.Checked.{Checked}
 use Rattle.refusal.specs.declared.refusal.Checked.the-variants.{Passed, Refused}

@@ -1,4 +1,5 @@
--- The first entry of a matrix at fault, column by column: one that is not finite (6 and 8), one that spoils the shape (9).
+-- The first entry of a matrix at fault, column by column: one that is not finite (6 and 8), one that spoils the shape
+-- (9).
 use Prim.Native.Nat.{ℕ, _+_, _-_}
 use mathlib.Core.Bool.{Bool, cond, not, _&&_, _||_}
 use mathlib.Core.List.{List}
@@ -37,11 +38,12 @@ firstOnDiagonal test n = let k = first test n in cond (ltb k n) (At (at k k)) No
 unfoldable pub notFinite : (n : ℕ) → (t : List Float) → (i j : ℕ) → Bool
 notFinite n t i j = not (isFinite (t ! place n i j))
 
--- An entry spoils the shape if it is nonzero and two or more rows below the diagonal, or if it stands just below the diagonal, is nonzero, and so is
--- the one just below the diagonal in the column before.
+-- An entry spoils the shape if it is nonzero and two or more rows below the diagonal, or if it stands just below the
+-- diagonal, is nonzero, and so is the one just below the diagonal in the column before.
 unfoldable pub spoils : (n : ℕ) → (t : List Float) → (i j : ℕ) → Bool
 spoils n t i j =
-    not (isZero (t ! place n i j)) && (leb (j + 2) i || (eqb i (j + 1) && (leb 1 j && not (isZero (t ! place n j (j - 1))))))
+    not (isZero (t ! place n i j)) && (leb (j + 2) i
+    || (eqb i (j + 1) && (leb 1 j && not (isZero (t ! place n j (j - 1))))))
 
 unfoldable pub firstNotFinite : ℕ → List Float → Search
 firstNotFinite n t = cond (blockFits n (length t) n n) (firstPlace (notFinite n t) n) Nowhere

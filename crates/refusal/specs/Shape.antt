@@ -1,4 +1,5 @@
--- What the readers of T trust (document 00, demand 3): every entry is finite, and the shape is quasi-triangular. -0 counts as zero.
+-- What the readers of T trust (document 00, demand 3): every entry is finite, and the shape is quasi-triangular. -0
+-- counts as zero.
 use Prim.Native.Nat.{ℕ, _+_, _<_, _≤_}
 use mathlib.Core.Bool.{true, _||_}
 use mathlib.Core.Path.{_≡_}

@@ -1,13 +1,14 @@
-// Makes a fixed list of calls through the library, and compares what each answers and leaves in the lent memory with what
-// stands in the list, bit by bit. It prints the name of each group of cases, how many there are and how many differ; how often
-// each entry was accepted, and refused with each number; and the sums. Of a case that differs it says what does.
+// Makes a fixed list of calls through the library, and compares what each answers and leaves in the lent memory with
+// what stands in the list, bit by bit. It prints the name of each group of cases, how many there are and how many
+// differ; how often each entry was accepted, and refused with each number; and the sums. Of a case that differs it says
+// what does.
 //
 // The list is its input, the file stdin beside src/. The Rust crate and document 01 have made it, never this program:
-// `oracle/run replay` draws the cases and answers them again and compares, `oracle/run replay --write` stores the list and the
-// file stdout. oracle/README.md says what is in it.
+// `oracle/run replay` draws the cases and answers them again and compares, `oracle/run replay --write` stores the list
+// and the file stdout. oracle/README.md says what is in it.
 //
-// The list is made of records. A record is a head of eight bytes and some words of eight, the lowest byte first. The head's
-// first byte is the record's kind, the second a small number s, the next two the number of words.
+// The list is made of records. A record is a head of eight bytes and some words of eight, the lowest byte first. The
+// head's first byte is the record's kind, the second a small number s, the next two the number of words.
 //   g  a group begins; its name is the first s bytes that follow
 //   n  the words are the patterns of numbers, which are put into slot s: 0 for a matrix, 1 for T, 2 for Q, 3 and 4 for
 //      eigenvalues. They stay there

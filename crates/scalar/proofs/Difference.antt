@@ -22,7 +22,8 @@ pub zero-value : (x : Float) (s : Bool) (c : ℕ) → 0 < c → HasValue x s 0 c
 unfolding eq ofBits
 zero-value nan s c p v = absurd v
 zero-value (inf t) s c p v = absurd v
-zero-value (fin t m e) s c p v = both-zero t (m * up e) (0 * down e) (eq-of-mul-eq-mul-right c p (m * up e) 0 (v .1 ∙ zero-mul (down e) ∙ sym (zero-mul c))) (zero-mul (down e))
+zero-value (fin t m e) s c p v =
+    both-zero t (m * up e) (0 * down e) (eq-of-mul-eq-mul-right c p (m * up e) 0 (v .1 ∙ zero-mul (down e) ∙ sym (zero-mul c))) (zero-mul (down e))
 
 -- the exact difference 0, rounded
 rounded : (c : ℕ) → 0 < c → eq (round binary64 false 0 c) zero ≡ true

@@ -2,7 +2,9 @@
 use Prim.Native.Nat.{ℕ, zero, suc, _+_, _-_, _*_, _/_, _%_, _^_, _≤_, _<_}
 use mathlib.Core.Path.{_≡_, refl, sym, ap, _∙_, subst}
 use mathlib.Core.Bool.{true, false, _&&_}
-use native.Mathlib.Nat.{le-trans, le-of-eq, lt-of-lt-of-le, lt-of-le-of-lt, lt-of-not-le, not-le-of-lt, lt-irrefl, le-of-suc-le-suc, mul-one, mul-assoc, mul-right-comm, mul-pos, mul-lt-mul-of-pos-right, lt-of-mul-lt-mul-right, mul-div-cancel, zero-lt-suc, div-lt-iff-lt-mul, le-div-iff-mul-le}
+use native.Mathlib.Nat.{le-trans, le-of-eq, lt-of-lt-of-le, lt-of-le-of-lt, lt-of-not-le, not-le-of-lt, lt-irrefl, le-of-suc-le-suc, mul-one, mul-assoc}
+use native.Mathlib.Nat.{mul-right-comm, mul-pos, mul-lt-mul-of-pos-right, lt-of-mul-lt-mul-right, mul-div-cancel, zero-lt-suc, div-lt-iff-lt-mul}
+use native.Mathlib.Nat.{le-div-iff-mul-le}
 use native.Mathlib.Omega.{arith}
 use lib.IntN.{ℤ, pos, negsuc}
 use lib.Dec.{T, leb, ltb, eqb, leb→le, ltb→lt}
@@ -71,7 +73,8 @@ scaled-exact m j p l =
     let h = scaleOf (m * 2 ^ j) in
     let t = j + 104 - 2 * h in
     let e : m * 2 ^ j * 2 ^ 104 ≡ m * 2 ^ t * 2 ^ (2 * h) =
-    mul-assoc m (2 ^ j) (2 ^ 104) ∙ ap (λ (x : ℕ). m * x) (sym (pow-add 2 j 104) ∙ ap (λ (x : ℕ). 2 ^ x) (sym (zeros-sum h j (scaleOf-few m j p l))) ∙ pow-add 2 t (2 * h)) ∙ sym (mul-assoc m (2 ^ t) (2 ^ (2 * h))) in
+    mul-assoc m (2 ^ j) (2 ^ 104) ∙ ap (λ (x : ℕ). m * x) (sym (pow-add 2 j 104) ∙ ap (λ (x : ℕ). 2 ^ x) (sym (zeros-sum h j (scaleOf-few m j p l)))
+    ∙ pow-add 2 t (2 * h)) ∙ sym (mul-assoc m (2 ^ t) (2 ^ (2 * h))) in
     ap (λ (x : ℕ). x / 2 ^ (2 * h)) e ∙ mul-div-cancel (m * 2 ^ t) (pow-pos (2 * h))
 
 scaled-back : (m j : ℕ) → 0 < m * 2 ^ j → m < 2 ^ 53 → scaledWhole (m * 2 ^ j) * 2 ^ (2 * scaleOf (m * 2 ^ j)) ≡ m * 2 ^ j * 2 ^ 104
@@ -98,7 +101,8 @@ scaled-room : (m j : ℕ) → 0 < m * 2 ^ j → m < 2 ^ 53 → scaledWhole (m * 
 unfolding zeros
 scaled-room m j p l =
     let h = scaleOf (m * 2 ^ j) in
-    roomy (scaledWhole (m * 2 ^ j)) m (j + 52 - 2 * h) l (scaled-hi (m * 2 ^ j)) (scaled-exact m j p l ∙ ap (λ (x : ℕ). m * 2 ^ x) (sym (at-52 h j (scaleOf-few m j p l))))
+    roomy (scaledWhole (m * 2 ^ j)) m (j + 52 - 2 * h) l (scaled-hi (m * 2 ^ j)) (scaled-exact m j p l
+    ∙ ap (λ (x : ℕ). m * 2 ^ x) (sym (at-52 h j (scaleOf-few m j p l))))
 
 -- ---- a value that fits is m * 2 ^ j smallest values
 
@@ -138,7 +142,8 @@ unitsRoot-fits R h l k =
     subst (λ (x : Float). T (fits binary64 x)) (odd-both 53 false R h 589 485)
     (odd-fits binary64 53 false R (h + 485) l (omega arith) (lt-of-lt-of-le (shl-lt 53 (h + 485) l) (pow-mono (exponent h k))))
 
-rooted : (x : Float) (m j : ℕ) → 0 < m * 2 ^ j → m < 2 ^ 53 → m * 2 ^ j < 2 ^ 2098 → HasValue x false (m * 2 ^ j * 2 ^ 104) (2 ^ 1178) → Rooted x (unitsRoot (m * 2 ^ j))
+rooted : (x : Float) (m j : ℕ) → 0 < m * 2 ^ j → m < 2 ^ 53 → m * 2 ^ j < 2 ^ 2098 → HasValue x false (m * 2 ^ j * 2 ^ 104) (2 ^ 1178)
+    → Rooted x (unitsRoot (m * 2 ^ j))
 unfolding unitsRoot
 rooted x m j p l b v =
     let n = m * 2 ^ j in
@@ -186,7 +191,8 @@ root-is m e t =
     let n = suc m * 2 ^ (u .0) in
     let q : suc m * up e * 2 ^ 1074 / down e ≡ n = ap (λ (x : ℕ). x / down e) (u .1) ∙ mul-div-cancel n (down-pos e) in
     let v : suc m * up e * 2 ^ 1178 ≡ n * 2 ^ 104 * down e =
-    ap (λ (x : ℕ). suc m * up e * x) (pow-add 2 1074 104) ∙ sym (mul-assoc (suc m * up e) (2 ^ 1074) (2 ^ 104)) ∙ ap (λ (x : ℕ). x * 2 ^ 104) (u .1) ∙ mul-right-comm n (down e) (2 ^ 104) in
+    ap (λ (x : ℕ). suc m * up e * x) (pow-add 2 1074 104) ∙ sym (mul-assoc (suc m * up e) (2 ^ 1074) (2 ^ 104)) ∙ ap (λ (x : ℕ). x * 2 ^ 104) (u .1)
+    ∙ mul-right-comm n (down e) (2 ^ 104) in
     subst (λ (x : ℕ). Rooted (fin false (suc m) e) (unitsRoot x)) (sym q)
     (rooted (fin false (suc m) e) (suc m) (u .0) (mul-pos (zero-lt-suc m) (pow-pos (u .0))) l (finite-below (suc m) (u .0) e (u .1) s) (refl, v))
 

@@ -1,18 +1,20 @@
--- The square root of a value of binary64, rounded to the nearest value: document 01, 'The square root'. Definitions that compute.
--- For a positive finite x the document names three numbers: F, such that X = x / 2 ^ (2 * F) is from 2 ^ 104 to below 2 ^ 106; X itself;
--- and R, the whole number nearest to the root of X. The answer is R * 2 ^ F. That these definitions give just those numbers is proved:
--- `Rooted.antt` has the statement.
+-- The square root of a value of binary64, rounded to the nearest value: document 01, 'The square root'. Definitions
+-- that compute. For a positive finite x the document names three numbers: F, such that X = x / 2 ^ (2 * F) is from 2 ^
+-- 104 to below 2 ^ 106; X itself; and R, the whole number nearest to the root of X. The answer is R * 2 ^ F. That these
+-- definitions give just those numbers is proved: `Rooted.antt` has the statement.
 use Prim.Native.Nat.{ℕ, zero, suc, _+_, _-_, _*_, _/_, _^_}
 use mathlib.Core.Bool.{true, false, cond}
 use lib.Dec.{leb, ltb}
 use lib.Ieee.{Float, nan, inf, fin, up, down, size, odd, binary64, ofBits, toBits}
 
--- The whole part of the root of X, for an X below 4 ^ k: that of X / 4 doubled, or one more where the square of that is still within X.
+-- The whole part of the root of X, for an X below 4 ^ k: that of X / 4 doubled, or one more where the square of that is
+-- still within X.
 unfoldable pub floorRoot : (k X : ℕ) → ℕ
 floorRoot zero X = 0
 floorRoot (suc k) X = let r = floorRoot k (X / 4) * 2 in cond (leb ((r + 1) * (r + 1)) X) (r + 1) r
 
--- R: the whole number nearest to the root of X, for an X below 2 ^ 106. r + 1/2 lies below the root where r * r + r is below X.
+-- R: the whole number nearest to the root of X, for an X below 2 ^ 106. r + 1/2 lies below the root where r * r + r is
+-- below X.
 unfoldable pub wholeRoot : ℕ → ℕ
 wholeRoot X = let r = floorRoot 53 X in cond (ltb (r * r + r) X) (r + 1) r
 

@@ -3,10 +3,10 @@
 mod bits;
 mod class;
 mod guess;
+mod halves;
 mod root;
 mod sign;
 mod table;
-mod halves;
 
 pub use bits::bits_of;
 pub use bits::not_a_number;

@@ -48,7 +48,8 @@ unfolding runFrom
 within asked budget p w = omega (arith, opened-none asked p w, count-most (run-counts asked) budget (opened asked p w))
 
 -- a run whose window is still open has counted its whole budget
-pub run-counted : (asked : Setting) (budget : ℕ) (r : Running) → passesAt r ≡ 0 → closed (runFrom asked budget r) ≡ false → passesAt (runFrom asked budget r) ≡ budget
+pub run-counted : (asked : Setting) (budget : ℕ) (r : Running) → passesAt r ≡ 0 → closed (runFrom asked budget r) ≡ false
+    → passesAt (runFrom asked budget r) ≡ budget
 unfolding runFrom
 run-counted asked budget r first still = omega (arith, first, open-count (run-counts asked) budget r still)
 
@@ -64,7 +65,8 @@ answered-tells budget amax r l = go (decLt (r .state .passes) budget)
   where
     go : Dec (r .state .passes < budget) → Tells (answered budget amax r) (r .state .passes) budget
     go (yes h) = ended (λ _. h) (sym (ap (λ x. x .answer) (answered-ended budget amax (r .state) (r .pair) r refl (λ e. omega arith))))
-    go (no h) = let e : r .state .passes ≡ budget = omega arith in reached _ e (sym (ap (λ x. x .answer) (answered-reached budget amax (r .state) (r .pair) r refl e)))
+    go (no h) =
+        let e : r .state .passes ≡ budget = omega arith in reached _ e (sym (ap (λ x. x .answer) (answered-reached budget amax (r .state) (r .pair) r refl e)))
 
 tells-cond : {x y : Left} {i j budget : ℕ} (b : Bool) → Tells x i budget → Tells y j budget → Tells (cond b x y) (cond b i j) budget
 tells-cond true h k = h
@@ -82,7 +84,8 @@ module _ (asked : Setting) (budget : ℕ) (p : Pair) (w : List Float) where
   -- never above the budget
   pub count-within : count ≤ budget
   unfolding countOf
-  count-within = cond-hold (λ k. k ≤ budget) (eqb (asked .order) 1) _ _ (λ _. omega arith) (cond-hold (λ k. k ≤ budget) (eqb (asked .order) 2) _ _ (λ _. omega arith) (within asked budget p w))
+  count-within = cond-hold (λ k. k ≤ budget) (eqb (asked .order) 1) _ _ (λ _. omega arith)
+      (cond-hold (λ k. k ≤ budget) (eqb (asked .order) 2) _ _ (λ _. omega arith) (within asked budget p w))
 
   pub ran-tells : Tells (ranOf asked budget p w) count budget
   unfolding ranOf countOf

@@ -16,7 +16,8 @@ use Rattle.pass.specs.Pass.{passOf}
 use Rattle.pass.specs.Block.{splitAt}
 use Rattle.pass.proofs.Independent.{passOf-t, splitAt-t, orderTwo-t}
 use Rattle.schur.specs.declared.run.State.{State}
-use Rattle.schur.specs.Run.{Running, running, state, closed, delimiting, after, turnTwo, turnMore, turnOf, runFrom, scaledDown, reducedPair, opened, Left, answered, runFits, ranOf, runOf}
+use Rattle.schur.specs.Run.{Running, running, state, closed, delimiting, after, turnTwo, turnMore, turnOf, runFrom, scaledDown, reducedPair, opened, Left}
+use Rattle.schur.specs.Run.{answered, runFits, ranOf, runOf}
 
 -- In all that follows one setting is asked for, but that Q is wanted as b says, or as d does.
 
@@ -37,7 +38,8 @@ delimiting-alike b d asked e stands p r h =
     let to : List Float → Running = λ t. delimiting asked e stands (pair t (r .q)) in
     record { state = ap (λ t. to t .state) h; t = ap (λ t. to t .pair .t) h }
 
-after-alike : (b d : Bool) (asked : Setting) (e : ℕ) (s : State) (p r : Pair) → p .t ≡ r .t → Alike (after (wanting b asked) e s p) (after (wanting d asked) e s r)
+after-alike : (b d : Bool) (asked : Setting) (e : ℕ) (s : State) (p r : Pair) → p .t ≡ r .t
+    → Alike (after (wanting b asked) e s p) (after (wanting d asked) e s r)
 unfolding after
 after-alike b d asked e s p r h = delimiting-alike b d asked e (λ w. state w (s .passes + 1)) p r h
 
@@ -52,7 +54,8 @@ turnTwo-alike b d asked s p r h =
 turnMore-alike : (b d : Bool) (asked : Setting) (s : State) (p r : Pair) → p .t ≡ r .t → Alike (turnMore (wanting b asked) s p) (turnMore (wanting d asked) s r)
 unfolding turnMore
 turnMore-alike b d asked s p r h =
-    after-alike b d asked (s .window .end) s (passOf (wanting b asked) (s .window) p) (passOf (wanting d asked) (s .window) r) (passOf-t b d asked (s .window) p r h)
+    after-alike b d asked (s .window .end) s (passOf (wanting b asked) (s .window) p) (passOf (wanting d asked) (s .window) r)
+    (passOf-t b d asked (s .window) p r h)
 
 turnFrom-alike : (b d : Bool) (asked : Setting) (s : State) (p r : Pair) → p .t ≡ r .t
     → Alike (turnOf (wanting b asked) (running s p)) (turnOf (wanting d asked) (running s r))
@@ -65,7 +68,8 @@ turnOf-alike b d asked x y a =
     let there = ap (λ s. turnOf (wanting d asked) (running s (y .pair))) (a .state) in
     record { state = turned .state ∙ ap (λ r. r .state) there; t = turned .t ∙ ap (λ r. r .pair .t) there }
 
-runFrom-alike : (b d : Bool) (asked : Setting) (budget : ℕ) (x y : Running) → Alike x y → Alike (runFrom (wanting b asked) budget x) (runFrom (wanting d asked) budget y)
+runFrom-alike : (b d : Bool) (asked : Setting) (budget : ℕ) (x y : Running) → Alike x y
+    → Alike (runFrom (wanting b asked) budget x) (runFrom (wanting d asked) budget y)
 unfolding runFrom closed
 runFrom-alike b d asked budget x y a =
     until-both Alike closed (turnOf (wanting b asked)) closed (turnOf (wanting d asked)) budget x y
@@ -89,7 +93,8 @@ same-cond true h k = h
 same-cond false h k = k
 
 -- the same state in hand, and then the other's
-answered-from : (budget : ℕ) (amax : Float) (s : State) (p r : Pair) → p .t ≡ r .t → Same (answered budget amax (running s p)) (answered budget amax (running s r))
+answered-from : (budget : ℕ) (amax : Float) (s : State) (p r : Pair) → p .t ≡ r .t
+    → Same (answered budget amax (running s p)) (answered budget amax (running s r))
 unfolding answered
 answered-from budget amax s p r h = same-cond (eqb (s .passes) budget) (record { answer = refl; t = h }) (record { answer = refl; t = ap (scaled amax) h })
 

@@ -24,7 +24,8 @@ use Rattle.pass.proofs.Lengths.{AsLong, same-long, then-long, onQ-length, passO
 use Rattle.pass.specs.declared.setting.Setting.{Setting}
 use Rattle.schur.specs.declared.run.State.{State}
 use Rattle.schur.specs.declared.run.Ran.the-variants.{Ended, BudgetReached}
-use Rattle.schur.specs.Run.{Running, running, state, closed, delimiting, after, turnTwo, turnMore, turnOf, runFrom, scaledDown, reducedPair, opened, Left, left, answered, ranOf}
+use Rattle.schur.specs.Run.{Running, running, state, closed, delimiting, after, turnTwo, turnMore, turnOf, runFrom, scaledDown, reducedPair, opened, Left}
+use Rattle.schur.specs.Run.{left, answered, ranOf}
 
 -- ---- one turn
 
@@ -86,7 +87,8 @@ answered-length : (budget : ℕ) (amax : Float) (r : Running) → AsLong (r .pai
 unfolding answered scaled
 answered-length budget amax r =
     cond-hold (λ (l : Left). AsLong (r .pair) (l .pair)) (eqb (r .state .passes) budget) (left (BudgetReached (r .state .window)) (r .pair))
-    (left (Ended (r .state .passes)) (pair (scaled amax (r .pair .t)) (r .pair .q))) (λ _. same-long (r .pair)) (record { t = eachTo-length _ _ (r .pair .t); q = refl })
+    (left (Ended (r .state .passes)) (pair (scaled amax (r .pair .t)) (r .pair .q))) (λ _. same-long (r .pair))
+    (record { t = eachTo-length _ _ (r .pair .t); q = refl })
 
 -- ---- every run
 

@@ -58,7 +58,8 @@ after asked e s p = delimiting asked e (λ w. state w (s .passes + 1)) p
 unfoldable pub turnTwo : Setting → State → Pair → Running
 turnTwo asked s p =
     let parted = splitAt asked (s .window .start) p in
-    cond (leb (s .window .end) 2) (running (state (window 0 0) (s .passes)) parted) (after asked (s .window .end - 2) s parted)
+    cond (leb (s .window .end) 2) (running (state (window 0 0) (s .passes)) parted)
+    (after asked (s .window .end - 2) s parted)
 
 -- A window of three or more: one double-shift pass, which counts.
 unfoldable pub turnMore : Setting → State → Pair → Running
@@ -66,7 +67,8 @@ turnMore asked s p = after asked (s .window .end) s (passOf asked (s .window) p)
 
 unfoldable pub turnOf : Setting → Running → Running
 turnOf asked r =
-    cond (leb (r .state .window .end) (r .state .window .start + 1)) (turnTwo asked (r .state) (r .pair)) (turnMore asked (r .state) (r .pair))
+    cond (leb (r .state .window .end) (r .state .window .start + 1)) (turnTwo asked (r .state) (r .pair))
+    (turnMore asked (r .state) (r .pair))
 
 -- at most `budget` turns
 unfoldable pub runFrom : Setting → (budget : ℕ) → Running → Running
@@ -87,7 +89,8 @@ reducedPair asked p w =
 
 -- scaled down, reduced, delimited: no pass is counted yet
 unfoldable pub opened : Setting → Pair → (w : List Float) → Running
-opened asked p w = delimiting asked (asked .order - 1) (λ v. state v 0) (reducedPair asked (pair (scaledDown (p .t)) (p .q)) w)
+opened asked p w =
+    delimiting asked (asked .order - 1) (λ v. state v 0) (reducedPair asked (pair (scaledDown (p .t)) (p .q)) w)
 
 -- what a run answers, and what it leaves in T and Q
 pub record Left : Type 0 where
@@ -114,15 +117,18 @@ runFits n tn wn = leb 1 n && (blockFits n tn n n && eqb wn (2 * n))
 unfoldable pub ranOf : Setting → (budget : ℕ) → Pair → (w : List Float) → Left
 ranOf asked budget p w =
     cond (eqb (asked .order) 1) (left (Ended 0) (pair (p .t) (onQ (asked .wanted) (filled one) (p .q))))
-    (cond (eqb (asked .order) 2) (left (Ended 0) (orderTwo asked p)) (answered budget (largest (p .t)) (runFrom asked budget (opened asked p w))))
+    (cond (eqb (asked .order) 2) (left (Ended 0) (orderTwo asked p))
+    (answered budget (largest (p .t)) (runFrom asked budget (opened asked p w))))
 
 -- the counted passes of that run: none at orders 1 and 2
 unfoldable pub countOf : Setting → (budget : ℕ) → Pair → (w : List Float) → ℕ
-countOf asked budget p w = cond (eqb (asked .order) 1) 0 (cond (eqb (asked .order) 2) 0 (passesAt (runFrom asked budget (opened asked p w))))
+countOf asked budget p w =
+    cond (eqb (asked .order) 1) 0 (cond (eqb (asked .order) 2) 0 (passesAt (runFrom asked budget (opened asked p w))))
 
 -- where something does not fit nothing is done
 unfoldable pub runOf : Setting → (budget : ℕ) → Pair → (w : List Float) → Left
-runOf asked budget p w = cond (runFits (asked .order) (length (p .t)) (length w)) (ranOf asked budget p w) (left Unfit p)
+runOf asked budget p w =
+    cond (runFits (asked .order) (length (p .t)) (length w)) (ranOf asked budget p w) (left Unfit p)
 
 -- the workspace afterwards: +0 throughout, unless nothing is done
 unfoldable pub workAfter : (n : ℕ) → (t w : List Float) → List Float

@@ -9,7 +9,8 @@ ghost use Rattle.loops.specs.Constants.{one};
 ghost use Rattle.matrix.specs.Vectors.{largest, filled};
 ghost use Rattle.hessenberg.specs.Unpacked.{unpackedQ};
 ghost use Rattle.pass.specs.Pair.{pair, onQ};
-ghost use Rattle.schur.specs.Run.{running, after, turnTwo, turnMore, turnOf, runFrom, scaledDown, reducedPair, opened, left, answered, runFits, ranOf, runOf, workAfter};
+ghost use Rattle.schur.specs.Run.{running, after, turnTwo, turnMore, turnOf, runFrom, scaledDown, reducedPair};
+ghost use Rattle.schur.specs.Run.{opened, left, answered, runFits, ranOf, runOf, workAfter};
 use pass::Setting;
 use window::Window;
 use window::delimit_subproblem;
@@ -32,7 +33,8 @@ impl State {
     // A pass has been made: T is delimited from `end`, and the pass counts.
     fn after(self, t: &mut [f64], asked: Setting, end: usize) -> State
         requires { ⌜ self .passes < 18446744073709551615 ⌝ }
-        ensures { λ r. ⌜ ((q : List Float) → running r (pair (now (t .exit)) q) ≡ after asked end self (pair (now (t .entry)) q)) ⌝ }
+        ensures { λ r. ⌜ ((q : List Float) → running r (pair (now (t .exit)) q)
+            ≡ after asked end self (pair (now (t .entry)) q)) ⌝ }
         ensures { λ r. ⌜ (r .window .end ≤ end) × (r .window .start ≤ r .window .end) × (r .passes ≡ self .passes + 1) ⌝ }
     {
         let window = delimit_subproblem(t, asked.order, asked.tolerance, end);
@@ -44,7 +46,8 @@ impl State {
 
     // A window of two. After the one at the beginning of the matrix the run ends, and that is not counted.
     fn turn_two(self, t: &mut [f64], q: &mut [f64], asked: Setting) -> State
-        requires { ⌜ (asked .order ≤ 64) × (length (now t) ≡ asked .order * asked .order) × (self .window .start + 1 ≡ self .window .end)
+        requires { ⌜ (asked .order ≤ 64) × (length (now t) ≡ asked .order * asked .order)
+            × (self .window .start + 1 ≡ self .window .end)
             × (self .window .end < asked .order) × (self .passes < 18446744073709551615) ⌝ }
         ensures { λ r. ⌜ running r (pair (now (t .exit)) (now (q .exit)))
             ≡ turnTwo asked self (pair (now (t .entry)) (now (q .entry))) ⌝ }
@@ -65,7 +68,8 @@ impl State {
 
     // A window of three or more.
     fn turn_more(self, t: &mut [f64], q: &mut [f64], asked: Setting) -> State
-        requires { ⌜ (asked .order ≤ 64) × (length (now t) ≡ asked .order * asked .order) × (self .window .start + 2 ≤ self .window .end)
+        requires { ⌜ (asked .order ≤ 64) × (length (now t) ≡ asked .order * asked .order)
+            × (self .window .start + 2 ≤ self .window .end)
             × (self .window .end < asked .order) × (self .passes < 18446744073709551615) ⌝ }
         ensures { λ r. ⌜ running r (pair (now (t .exit)) (now (q .exit)))
             ≡ turnMore asked self (pair (now (t .entry)) (now (q .entry))) ⌝ }
@@ -79,7 +83,8 @@ impl State {
 
     // One turn over an open window.
     fn turn(self, t: &mut [f64], q: &mut [f64], asked: Setting) -> State
-        requires { ⌜ (asked .order ≤ 64) × (length (now t) ≡ asked .order * asked .order) × (self .window .start < self .window .end)
+        requires { ⌜ (asked .order ≤ 64) × (length (now t) ≡ asked .order * asked .order)
+            × (self .window .start < self .window .end)
             × (self .window .end < asked .order) × (self .passes < 18446744073709551615) ⌝ }
         ensures { λ r. ⌜ running r (pair (now (t .exit)) (now (q .exit)))
             ≡ turnOf asked (running self (pair (now (t .entry)) (now (q .entry)))) ⌝ }
@@ -94,7 +99,8 @@ impl State {
 
     // Turn after turn, at most `budget` of them.
     fn run_from(self, t: &mut [f64], q: &mut [f64], asked: Setting, budget: u64) -> State
-        requires { ⌜ (asked .order ≤ 64) × (length (now t) ≡ asked .order * asked .order) × (self .window .start ≤ self .window .end)
+        requires { ⌜ (asked .order ≤ 64) × (length (now t) ≡ asked .order * asked .order)
+            × (self .window .start ≤ self .window .end)
             × (self .window .end < asked .order) × (self .passes + budget ≤ 18446744073709551615) ⌝ }
         ensures { λ r. ⌜ running r (pair (now (t .exit)) (now (q .exit)))
             ≡ runFrom asked budget (running self (pair (now (t .entry)) (now (q .entry)))) ⌝ }
@@ -152,7 +158,8 @@ struct Opening {
 
 fn begin(t: &mut [f64], q: &mut [f64], asked: Setting, work: &mut [f64]) -> Opening
     requires { ⌜ (asked .order ≤ 64) × (3 ≤ asked .order) × (length (now t) ≡ asked .order * asked .order) ⌝ }
-    ensures { λ r. ⌜ (running (r .state) (pair (now (t .exit)) (now (q .exit))) ≡ opened asked (pair (now (t .entry)) (now (q .entry))) (now (work .entry)))
+    ensures { λ r. ⌜ (running (r .state) (pair (now (t .exit)) (now (q .exit)))
+        ≡ opened asked (pair (now (t .entry)) (now (q .entry))) (now (work .entry)))
         × (r .amax ≡ largest (now (t .entry))) ⌝ }
     ensures { λ r. ⌜ (r .state .window .end < asked .order) × (r .state .window .start ≤ r .state .window .end)
         × (r .state .passes ≡ 0) ⌝ }
@@ -170,7 +177,8 @@ fn begin(t: &mut [f64], q: &mut [f64], asked: Setting, work: &mut [f64]) -> Open
 fn run_large(t: &mut [f64], q: &mut [f64], asked: Setting, budget: u64, work: &mut [f64]) -> Ran
     requires { ⌜ (asked .order ≤ 64) × (3 ≤ asked .order) × (length (now t) ≡ asked .order * asked .order) ⌝ }
     ensures { λ r. ⌜ left r (pair (now (t .exit)) (now (q .exit)))
-        ≡ answered budget (largest (now (t .entry))) (runFrom asked budget (opened asked (pair (now (t .entry)) (now (q .entry))) (now (work .entry)))) ⌝ }
+        ≡ answered budget (largest (now (t .entry)))
+        (runFrom asked budget (opened asked (pair (now (t .entry)) (now (q .entry))) (now (work .entry)))) ⌝ }
 {
     let begun = begin(t, q, asked, work);
     let state = begun.state;

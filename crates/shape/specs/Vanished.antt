@@ -1,6 +1,7 @@
--- Of a run: in some step of one of its passes the axis was not zero throughout, and yet all its squares vanished (document 00, demand 3). That is the third
--- of the axis's ways, `TooSmall`: such a step does nothing, and may leave a bulge unswept. Refusal 9 comes from no other run.
--- The reduction has axes too. What they leave from the second subdiagonal down is overwritten with +0, so nothing is asked of them here.
+-- Of a run: in some step of one of its passes the axis was not zero throughout, and yet all its squares vanished
+-- (document 00, demand 3). That is the third of the axis's ways, `TooSmall`: such a step does nothing, and may leave a
+-- bulge unswept. Refusal 9 comes from no other run. The reduction has axes too. What they leave from the second
+-- subdiagonal down is overwritten with +0, so nothing is asked of them here.
 use Prim.Native.Nat.{ℕ, _+_, _-_}
 use mathlib.Core.Bool.{Bool, true, false, cond, not, _&&_}
 use mathlib.Core.List.{List}

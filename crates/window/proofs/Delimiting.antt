@@ -15,7 +15,8 @@ use Rattle.window.specs.Window.{window, below, small, decoupled, falling
 
 -- ---- whether an entry passes for zero, told of its magnitude and of those beside it on the diagonal
 
-pub small-absolute : (n : ℕ) (eps : Float) (t : List Float) (i : ℕ) (off : Float) → off ≡ modulusOf (below n i t) → le off (eps ⊗ eps) ≡ true → true ≡ small n eps t i
+pub small-absolute : (n : ℕ) (eps : Float) (t : List Float) (i : ℕ) (off : Float) → off ≡ modulusOf (below n i t) → le off (eps ⊗ eps) ≡ true
+    → true ≡ small n eps t i
 unfolding small
 small-absolute n eps t i off e h =
     let beside = eps ⊗ (modulusOf (t ! place n i i) ⊕ modulusOf (t ! place n (i - 1) (i - 1))) in
@@ -36,14 +37,17 @@ unfolding delimitHere
 found n eps end t₀ e t s h k = rw (← h, ← k)
 
 -- nothing cuts the window off: it begins at row 0
-pub delimit-open : (n : ℕ) (eps : Float) (end : ℕ) (t₀ : List Float) (e : ℕ) (t : List Float) (s : ℕ) → falling e t ≡ endFrom n eps end t₀ → s ≡ startFrom n eps e t
+pub delimit-open : (n : ℕ) (eps : Float) (end : ℕ) (t₀ : List Float) (e : ℕ) (t : List Float) (s : ℕ) → falling e t ≡ endFrom n eps end t₀
+    → s ≡ startFrom n eps e t
     → s ≡ 0 → delimited (window s e) t ≡ delimitHere n eps end t₀
 delimit-open n eps end t₀ e t s h k z = sym (ap (λ b. delimited (window s e) (cond b t (decoupled n s t))) (eq-eqb _ _ z)) ∙ found n eps end t₀ e t s h k
 
 -- it is cut off above row s
-pub delimit-cut : (n : ℕ) (eps : Float) (end : ℕ) (t₀ : List Float) (e : ℕ) (t : List Float) (s : ℕ) → falling e t ≡ endFrom n eps end t₀ → s ≡ startFrom n eps e t
+pub delimit-cut : (n : ℕ) (eps : Float) (end : ℕ) (t₀ : List Float) (e : ℕ) (t : List Float) (s : ℕ) → falling e t ≡ endFrom n eps end t₀
+    → s ≡ startFrom n eps e t
     → 0 < s → delimited (window s e) (decoupled n s t) ≡ delimitHere n eps end t₀
-delimit-cut n eps end t₀ e t s h k z = sym (ap (λ b. delimited (window s e) (cond b t (decoupled n s t))) (ne-eqb s 0 (omega arith))) ∙ found n eps end t₀ e t s h k
+delimit-cut n eps end t₀ e t s h k z =
+    sym (ap (λ b. delimited (window s e) (cond b t (decoupled n s t))) (ne-eqb s 0 (omega arith))) ∙ found n eps end t₀ e t s h k
 
 -- the end fell to row 0: the window has closed
 pub delimit-closed : (n : ℕ) (eps : Float) (end : ℕ) (t₀ : List Float) (e : ℕ) (t : List Float) → falling e t ≡ endFrom n eps end t₀

@@ -1,5 +1,6 @@
--- The window: the rows and columns, from `start` to `end`, that the next pass works on (document 01, step 5; docs/SUMS.md, 7.6).
--- T is a matrix of order n, eps the tolerance. An entry just below the diagonal is named by its row i, 1 or more: it stands in column i - 1.
+-- The window: the rows and columns, from `start` to `end`, that the next pass works on (document 01, step 5;
+-- docs/SUMS.md, 7.6). T is a matrix of order n, eps the tolerance. An entry just below the diagonal is named by its row
+-- i, 1 or more: it stands in column i - 1.
 use Prim.Native.Nat.{ℕ, _+_, _-_}
 use mathlib.Core.Bool.{Bool, cond, not, _||_}
 use mathlib.Core.List.{List}

@@ -76,7 +76,8 @@ fn delimit_start(t: &[f64], n: usize, eps: f64, end: usize) -> usize
 // is 0 0.
 fn delimit_here(t: &mut [f64], n: usize, eps: f64, end: usize) -> Window
     requires { ⌜ (n ≤ 64) × (length (now t) ≡ n * n) × (end < n) ⌝ }
-    ensures { λ r. ⌜ (delimited r (now (t .exit)) ≡ delimitHere n eps end (now (t .entry))) × (r .end ≤ end) × (r .start ≤ r .end) ⌝ }
+    ensures { λ r. ⌜ (delimited r (now (t .exit)) ≡ delimitHere n eps end (now (t .entry))) × (r .end ≤ end)
+        × (r .start ≤ r .end) ⌝ }
 {
     let e = delimit_end(t, n, eps, end);
     if e == 0 {
@@ -91,7 +92,8 @@ fn delimit_here(t: &mut [f64], n: usize, eps: f64, end: usize) -> Window
 
 // The same for every argument: a closed window, with nothing done, where t has no row `end`.
 pub fn delimit_subproblem(t: &mut [f64], n: usize, eps: f64, end: usize) -> Window
-    ensures { λ r. ⌜ (delimited r (now (t .exit)) ≡ delimitOf n eps end (now (t .entry))) × (r .end ≤ end) × (r .start ≤ r .end) ⌝ }
+    ensures { λ r. ⌜ (delimited r (now (t .exit)) ≡ delimitOf n eps end (now (t .entry))) × (r .end ≤ end)
+        × (r .start ≤ r .end) ⌝ }
 {
     if !matrix::block_fits(n, t.len(), end, 1, end, 1) {
         return Window { start: 0, end: 0 };

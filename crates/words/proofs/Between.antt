@@ -39,7 +39,8 @@ pub floats-length : (m : List ℕ) (k : ℕ) → length m ≡ 8 * k → length (
 floats-length m k e = floatsOf-length m ∙ omega arith
 
 -- `decode` and `encode`, where there is room
-pub decoded : {a : List Float} (m : List ℕ) (a₀ : List Float) (k : ℕ) → length m ≡ 8 * k → length a₀ ≡ k → a ≡ cond (eqb (length m / 8) (length a₀)) (floatsOf m) a₀ → a ≡ floatsOf m
+pub decoded : {a : List Float} (m : List ℕ) (a₀ : List Float) (k : ℕ) → length m ≡ 8 * k → length a₀ ≡ k
+    → a ≡ cond (eqb (length m / 8) (length a₀)) (floatsOf m) a₀ → a ≡ floatsOf m
 decoded m a₀ k e f h = let q : length m / 8 ≡ length a₀ = omega arith in h ∙ rw (eq-eqb _ _ q)
 
 pub encoded : {b : List ℕ} (a : List Float) (b₀ : List ℕ) → b ≡ cond (eqb (length b₀) (8 * length a)) (bytesOf a) b₀ → length b₀ ≡ 8 * length a → b ≡ bytesOf a

@@ -40,6 +40,7 @@ unfolding ofBits
 pattern-finite w = fields-finite (leb (2 ^ 63) w) (w % 2 ^ 63 / 2 ^ 52) (w % 2 ^ 52) ∙ all-ones (w % 2 ^ 63) (omega arith)
 
 -- whatever test tells the patterns apart there
-pub finite-by : (w : ℕ) (test : Bool) → (test ≡ true → w % 2 ^ 63 < 0x7ff0_0000_0000_0000) → (test ≡ false → 0x7ff0_0000_0000_0000 ≤ w % 2 ^ 63) → test ≡ isFinite (ofBits binary64 w)
+pub finite-by : (w : ℕ) (test : Bool) → (test ≡ true → w % 2 ^ 63 < 0x7ff0_0000_0000_0000) → (test ≡ false → 0x7ff0_0000_0000_0000 ≤ w % 2 ^ 63)
+    → test ≡ isFinite (ofBits binary64 w)
 finite-by w true below above = sym (pattern-finite w ∙ lt-ltb _ _ (below refl))
 finite-by w false below above = sym (pattern-finite w ∙ le-ltb _ _ (above refl))

@@ -76,7 +76,8 @@ pub record Written (a : List Float) (b₀ : List ℕ) (k : ℕ) (b : List ℕ) :
 pub written-none : (a : List Float) (b : List ℕ) → Written a b 0 b
 written-none a b = record { upto = omega arith; size = refl; done = sym (times-none (writing a) b) }
 
-pub written-more : {a : List Float} {b₀ : List ℕ} {k : ℕ} {b b' : List ℕ} {w : ℕ} → Written a b₀ k b → k < length a → w ≡ toBits binary64 (a ! k) → b' ≡ put64 b (8 * k) w
+pub written-more : {a : List Float} {b₀ : List ℕ} {k : ℕ} {b b' : List ℕ} {w : ℕ} → Written a b₀ k b → k < length a → w ≡ toBits binary64 (a ! k)
+    → b' ≡ put64 b (8 * k) w
     → Written a b₀ (k + 1) b'
 written-more {a} {b₀} {k} {b} {w = w} d h e p = record {
   upto = omega arith;

@@ -11,7 +11,8 @@ use Rattle.words.specs.Words.{byteOf}
 use Rattle.words.specs.Inner.{put64}
 
 -- eight stores, each of its byte, one after another
-pub put64-by : (s : List ℕ) (at w : ℕ) {v0 v1 v2 v3 v4 v5 v6 v7 : ℕ} → v0 ≡ byteOf w 0 → v1 ≡ byteOf w 1 → v2 ≡ byteOf w 2 → v3 ≡ byteOf w 3 → v4 ≡ byteOf w 4 → v5 ≡ byteOf w 5 → v6 ≡ byteOf w 6 → v7 ≡ byteOf w 7
+pub put64-by : (s : List ℕ) (at w : ℕ) {v0 v1 v2 v3 v4 v5 v6 v7 : ℕ} → v0 ≡ byteOf w 0 → v1 ≡ byteOf w 1 → v2 ≡ byteOf w 2 → v3 ≡ byteOf w 3 → v4 ≡ byteOf w 4
+    → v5 ≡ byteOf w 5 → v6 ≡ byteOf w 6 → v7 ≡ byteOf w 7
     → set (set (set (set (set (set (set (set s at v0) (at + 1) v1) (at + 2) v2) (at + 3) v3) (at + 4) v4) (at + 5) v5) (at + 6) v6) (at + 7) v7 ≡ put64 s at w
 unfolding put64 times
 put64-by s at w e0 e1 e2 e3 e4 e5 e6 e7 = rw (e0, e1, e2, e3, e4, e5, e6, e7) (simp add-zero)

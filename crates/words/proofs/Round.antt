@@ -27,7 +27,8 @@ unfolding byteOf
 rest w k = rw (add-one, pow-suc, ← div-div-eq-div-mul w (256 ^ k) 256) (omega (arith, div-add-mod' (w / 256 ^ k) 256))
 
 bytes-make : (w : ℕ) → w < 2 ^ 64
-    → byteOf w 0 + byteOf w 1 * 256 + byteOf w 2 * 65536 + byteOf w 3 * 16777216 + byteOf w 4 * 4294967296 + byteOf w 5 * 1099511627776 + byteOf w 6 * 281474976710656
+    → byteOf w 0 + byteOf w 1 * 256 + byteOf w 2 * 65536 + byteOf w 3 * 16777216 + byteOf w 4 * 4294967296 + byteOf w 5 * 1099511627776 + byteOf w 6 *
+    281474976710656
     + byteOf w 7 * 72057594037927936
     ≡ w
 bytes-make w h = omega (arith, made (byteOf w) (λ k. w / 256 ^ k) (rest w), div-eq-of-lt h, div-one w)

@@ -1,5 +1,5 @@
--- The floats whose patterns stand in a list of bytes, the bytes of a list of floats, and floats to begin with. Every NaN pattern is read as the one NaN, and that is
--- written as 7FF8000000000000 (docs/EXCEPTIONS.md).
+-- The floats whose patterns stand in a list of bytes, the bytes of a list of floats, and floats to begin with. Every
+-- NaN pattern is read as the one NaN, and that is written as 7FF8000000000000 (docs/EXCEPTIONS.md).
 use Prim.Native.Nat.{ℕ, _*_, _/_, _%_}
 use mathlib.Core.List.{List}
 use lib.ListN.{length}

@@ -44,5 +44,6 @@ written = refl
 
 -- of the matrix of order 2 that lies in them, column by column, the infinity is met first
 met : firstNotFinite 2 (floatsOf (three ++ payload)) ≡ At (at 0 1)
-unfolding three payload floatsOf table le64 ofBits firstNotFinite blockFits firstPlace firstCol firstRow firstFrom until notFinite isFinite
+unfolding three payload floatsOf table le64 ofBits firstNotFinite blockFits firstPlace firstCol firstRow firstFrom until
+    notFinite isFinite
 met = refl

@@ -11,7 +11,8 @@ use crate::word::write_u64;
 // The floats of b, put into a. Where a has another number of places nothing is done; bytes of b past the last
 // eight are not read.
 pub fn decode(b: &[u8], a: &mut [f64])
-    ensures { λ _. ⌜ now (a .exit) ≡ cond (eqb (length (now (b .entry)) / 8) (length (now (a .entry)))) (floatsOf (now (b .entry))) (now (a .entry)) ⌝ }
+    ensures { λ _. ⌜ now (a .exit) ≡ cond (eqb (length (now (b .entry)) / 8) (length (now (a .entry))))
+        (floatsOf (now (b .entry))) (now (a .entry)) ⌝ }
 {
     if b.len() / 8 != a.len() {
         return;
@@ -23,7 +24,8 @@ pub fn decode(b: &[u8], a: &mut [f64])
 
 // The bytes of a's floats, put into b. Where b has another length nothing is done.
 pub fn encode(a: &[f64], b: &mut [u8])
-    ensures { λ _. ⌜ now (b .exit) ≡ cond (eqb (length (now (b .entry))) (8 * length (now (a .entry)))) (bytesOf (now (a .entry))) (now (b .entry)) ⌝ }
+    ensures { λ _. ⌜ now (b .exit) ≡ cond (eqb (length (now (b .entry))) (8 * length (now (a .entry))))
+        (bytesOf (now (a .entry))) (now (b .entry)) ⌝ }
 {
     if b.len() / 8 != a.len() {
         return;

@@ -64,7 +64,8 @@ fn count(bad: usize, finite: bool) -> usize
 // Whether all patterns are those of finite numbers. The others are counted, and nothing leaves the loop: so the
 // compiler takes several at once.
 fn all_finite(b: &[u8]) -> bool
-    ensures { λ r. ⌜ (r ≡ true → (k : ℕ) → k < length (now (b .entry)) / 8 → isFinite (floatsOf (now (b .entry)) ! k) ≡ true) ⌝ }
+    ensures { λ r. ⌜ (r ≡ true → (k : ℕ) → k < length (now (b .entry)) / 8
+        → isFinite (floatsOf (now (b .entry)) ! k) ≡ true) ⌝ }
 {
     let mut bad = 0;
     for k in 0..b.len() / 8 {

@@ -15,7 +15,8 @@ returns-2 c =
     let made = c .before .before .before .before .before .before .before in
     let for = made .before .before .before .before in
     let second = for .before in
-    without-q _ _ _ _ _ _ _ _ _ _ _ (second .before .before .if1 .left) (second .if2 .taken) (for .asked2 .ensures) (made .try-new2 .ensures .0) (c .decomposed2 .ensures)
+    without-q _ _ _ _ _ _ _ _ _ _ _ (second .before .before .if1 .left) (second .if2 .taken) (for .asked2 .ensures) (made .try-new2 .ensures .0)
+    (c .decomposed2 .ensures)
 
 returns-3 : tie.Need-returns-3
 returns-3 c =
@@ -30,7 +31,8 @@ returns-4 c =
     let fourth = made .before .before .before in
     let third = fourth .before .before in
     let second = third .before .before in
-    in-pairs _ _ _ _ _ _ _ _ _ (second .before .before .if1 .left) (second .if2 .left) (third .if3 .left) (fourth .if4 .taken) (made .complex-eigenvalues .ensures) (c .checked2 .ensures)
+    in-pairs _ _ _ _ _ _ _ _ _ (second .before .before .if1 .left) (second .if2 .left) (third .if3 .left) (fourth .if4 .taken)
+    (made .complex-eigenvalues .ensures) (c .checked2 .ensures)
 
 returns-5 : tie.Need-returns-5
 returns-5 c =
@@ -38,7 +40,8 @@ returns-5 c =
     let fourth = made .before .before .before in
     let third = fourth .before .before in
     let second = third .before .before in
-    plainly _ _ _ _ _ _ _ _ _ (second .before .before .if1 .left) (second .if2 .left) (third .if3 .left) (fourth .if4 .left) (made .plain-eigenvalues .ensures) (c .checked3 .ensures)
+    plainly _ _ _ _ _ _ _ _ _ (second .before .before .if1 .left) (second .if2 .left) (third .if3 .left) (fourth .if4 .left) (made .plain-eigenvalues .ensures)
+    (c .checked3 .ensures)
 
 pub run-spec : {M : Type 1} → statement M
 run-spec = tie.close (tie.spec

@@ -14,7 +14,8 @@ returns-2 : tie.Need-returns-2
 unfolding argumentChecks
 returns-2 c =
     let ordered : tie.After-enum-told = search in
-    next-then (ordered .before .before .check-order .ensures) (ordered .enum-told .given .1) (next-first _ (c .before .before .check-all-lengths .ensures) (c .enum-told4 .given .1))
+    next-then (ordered .before .before .check-order .ensures) (ordered .enum-told .given .1)
+    (next-first _ (c .before .before .check-all-lengths .ensures) (c .enum-told4 .given .1))
 
 returns-3 : tie.Need-returns-3
 unfolding argumentChecks
@@ -25,5 +26,6 @@ returns-3 c =
 
 pub check-arguments-spec : {M : Type 1} → statement M
 unfolding argumentChecks
-check-arguments-spec = tie.close (tie.spec (λ c κs. omega arith) (λ c. omega arith) (λ c. omega arith) (λ c. next-first _ (c .before .before .check-order .ensures) (c .enum-told2 .given .1))
+check-arguments-spec = tie.close (tie.spec (λ c κs. omega arith) (λ c. omega arith) (λ c. omega arith)
+    (λ c. next-first _ (c .before .before .check-order .ensures) (c .enum-told2 .given .1))
     lengths-requires (λ c. omega arith) (λ c. omega arith) returns-2 (λ c κs. omega arith) returns-3)

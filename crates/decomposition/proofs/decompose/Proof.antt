@@ -12,7 +12,8 @@ returns c =
     let settled : tie.After-decide = search in
     let ran : tie.After-do-decompose = search in
     let fits = start .pre in
-    judged-by _ _ _ _ _ _ (settlement _ _) (ran .do-decompose .ensures .0 ∙ ran-there _ _ _ _ fits) (settled .decide .ensures) (ran .do-decompose .ensures .1 ∙ work-there _ _ _ fits)
+    judged-by _ _ _ _ _ _ (settlement _ _) (ran .do-decompose .ensures .0 ∙ ran-there _ _ _ _ fits) (settled .decide .ensures) (ran .do-decompose .ensures .1
+    ∙ work-there _ _ _ fits)
 
 pub decompose-spec : {M : Type 1} → statement M
 decompose-spec = tie.close (tie.spec (λ c κs. omega arith) (λ c κs. omega arith) (λ c. omega arith) (λ c. omega arith) (λ c. omega arith) returns)

@@ -10,7 +10,8 @@ returns-2 : tie.Need-returns-2
 unfolding plainLengths
 returns-2 c =
     let squared : tie.After-enum-told = search in
-    next-then (squared .before .before .check-length .ensures) (squared .enum-told .given .1) (next-first _ (c .before .before .check-length2 .ensures) (c .enum-told4 .given .1))
+    next-then (squared .before .before .check-length .ensures) (squared .enum-told .given .1)
+    (next-first _ (c .before .before .check-length2 .ensures) (c .enum-told4 .given .1))
 
 returns-3 : tie.Need-returns-3
 unfolding plainLengths
@@ -23,5 +24,6 @@ returns-3 c =
 pub check-lengths-spec : {M : Type 1} → statement M
 unfolding plainLengths
 check-lengths-spec = tie.close (tie.spec (λ c. omega (arith, square-64 (c .args .n) (omega arith))) (λ c κs. omega arith) (λ c. omega arith) (λ c. omega arith)
-    (λ c. next-first _ (c .before .before .check-length .ensures) (c .enum-told2 .given .1)) (λ c κs. omega arith) (λ c. omega arith) (λ c. omega arith) returns-2
+    (λ c. next-first _ (c .before .before .check-length .ensures) (c .enum-told2 .given .1)) (λ c κs. omega arith) (λ c. omega arith)
+    (λ c. omega arith) returns-2
     (λ c. omega arith) (λ c κs. omega arith) returns-3)

@@ -12,7 +12,9 @@ returns c =
     let start : tie.Start = search in
     let settled : tie.After-decide = search in
     let ran : tie.After-do-decompose = search in
-    ran-by {l = left _ _} {s = settlement _ _} _ _ _ (start .pre) (ran .do-decompose .ensures .0) (settled .decide .ensures) (ran .do-decompose .ensures .1) (omega arith)
+    ran-by {l = left _ _} {s = settlement _ _} _ _ _ (start .pre) (ran .do-decompose .ensures .0) (settled .decide .ensures) (ran .do-decompose .ensures .1)
+    (omega arith)
 
 pub decompose-spec : {M : Type 1} → statement M
-decompose-spec = tie.close (tie.spec (λ c. search needs) (λ c κs. omega arith) (λ c. search needs) (λ c κs. omega arith) (λ c. omega arith) (λ c. omega arith) returns)
+decompose-spec =
+    tie.close (tie.spec (λ c. search needs) (λ c κs. omega arith) (λ c. search needs) (λ c κs. omega arith) (λ c. omega arith) (λ c. omega arith) returns)

@@ -11,4 +11,5 @@ plain-in-requires c κs =
     let pre = start .pre in (pre, mul-le-mul (pre .order) (pre .order))
 
 pub plain-64-spec : {M : Type 1} → statement M
-plain-64-spec = tie.close (tie.spec (λ c. search needs) plain-in-requires (λ c. omega arith) (λ c. omega arith) (λ c. let after-plain-in : tie.After-plain-in = search in after-plain-in .plain-in .ensures))
+plain-64-spec = tie.close (tie.spec (λ c. search needs) plain-in-requires (λ c. omega arith) (λ c. omega arith)
+    (λ c. let after-plain-in : tie.After-plain-in = search in after-plain-in .plain-in .ensures))

@@ -19,5 +19,6 @@ returns-2 c =
     begun-run (inPlace _ _ _ _) _ _ _ _ (done .before .before .before .before .if1 .left) (ran .0) (ran .1) (ran .2)
 
 pub plain-any-spec : {M : Type 1} → statement M
-plain-any-spec = tie.close (tie.spec (λ c κs. omega (arith, ap (λ k. k * k) (c .before .before .before .if1 .taken))) (λ c. omega arith) (λ c. omega arith) (λ c. omega arith) returns
+plain-any-spec = tie.close (tie.spec (λ c κs. omega (arith, ap (λ k. k * k) (c .before .before .before .if1 .taken))) (λ c. omega arith) (λ c. omega arith)
+    (λ c. omega arith) returns
     (λ c κs. omega arith) (λ c. omega arith) (λ c. omega arith) (λ c. omega arith) returns-2)

@@ -11,7 +11,8 @@ unfolding plainOf plainPlacedOf
 returns c = ap (λ p. kept p) (begun-kept _ _ _ _ (c .enum-told2 .given .1) ∙ begun-by _ _ _ _ (c .before .before .check-arguments .ensures))
 
 plain-kept-requires : tie.Need-plain-kept-requires
-plain-kept-requires c κs = let told : tie.After-enum-told = search in given-sized _ _ _ _ _ (sym (told .before .before .check-arguments .ensures) ∙ told .enum-told .given .1)
+plain-kept-requires c κs =
+    let told : tie.After-enum-told = search in given-sized _ _ _ _ _ (sym (told .before .before .check-arguments .ensures) ∙ told .enum-told .given .1)
 
 returns-2 : tie.Need-returns-2
 unfolding plainOf plainPlacedOf
@@ -21,4 +22,5 @@ returns-2 c =
     done .plain-kept .ensures ∙ ap (λ p. kept p) (begun-by _ _ _ _ (sym (told .enum-told .given .1) ∙ told .before .before .check-arguments .ensures))
 
 pub plain-eigenvalues-spec : {M : Type 1} → statement M
-plain-eigenvalues-spec = tie.close (tie.spec (λ c κs. omega arith) (λ c. omega arith) (λ c. omega arith) returns plain-kept-requires (λ c. omega arith) (λ c. omega arith) returns-2)
+plain-eigenvalues-spec = tie.close (tie.spec (λ c κs. omega arith) (λ c. omega arith) (λ c. omega arith) returns plain-kept-requires (λ c. omega arith)
+    (λ c. omega arith) returns-2)

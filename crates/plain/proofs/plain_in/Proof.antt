@@ -24,5 +24,6 @@ returns c =
     after-plain-copied .plain-copied .ensures
 
 pub plain-in-spec : {M : Type 1} → statement M
-plain-in-spec = tie.close (tie.spec (λ c. let start : tie.Start = search in omega (arith, square-64 (start .args .n) (omega arith))) relend aggregate plain-copied-requires
+plain-in-spec =
+    tie.close (tie.spec (λ c. let start : tie.Start = search in omega (arith, square-64 (start .args .n) (omega arith))) relend aggregate plain-copied-requires
     (λ c. omega arith) (λ c. omega arith) (λ c. omega arith) returns)

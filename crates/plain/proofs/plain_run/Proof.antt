@@ -22,9 +22,13 @@ returns-2 c =
     let done : tie.After-decompose = search in
     let left = done .decompose .ensures in
     let z = start .pre in
-    let here = c .before .before .diagonal-if-real .ensures ∙ diagonal-fits _ _ _ (z .some) (z .order) (omega arith) (omega arith) in
-    (run-read _ _ _ _ (sym (ap (λ o. o .answer) left) ∙ told .enum-told .given .1) (ap (λ o. o .pair .t) left) here, ap (λ o. o .pair .t) left, ap (λ o. o .work) left ∙ judged-work _ _ _)
+    let here = c .before .before .diagonal-if-real .ensures ∙ diagonal-fits _ _ _ (z .some) (z .order) (omega arith) (omega arith) in (
+      run-read _ _ _ _ (sym (ap (λ o. o .answer) left) ∙ told .enum-told .given .1) (ap (λ o. o .pair .t) left) here,
+      ap (λ o. o .pair .t) left,
+      ap (λ o. o .work) left ∙ judged-work _ _ _,
+    )
 
 pub plain-run-spec : {M : Type 1} → statement M
-plain-run-spec = tie.close (tie.spec (λ c κs. let start : tie.Start = search in run-fits (start .pre)) (λ c. search needs) (λ c. search needs) (λ c κs. omega arith) (λ c. omega arith) (λ c. omega arith) returns
+plain-run-spec = tie.close (tie.spec (λ c κs. let start : tie.Start = search in
+    run-fits (start .pre)) (λ c. search needs) (λ c. search needs) (λ c κs. omega arith) (λ c. omega arith) (λ c. omega arith) returns
     (λ c. omega arith) (λ c. omega arith) (λ c. omega arith) returns-2)

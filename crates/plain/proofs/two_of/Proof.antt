@@ -10,7 +10,8 @@ use Rattle.plain.proofs.two_of.Tie as tie
 returns-2 : tie.Need-returns-2
 returns-2 c =
     let told : tie.After-v = search in
-    rw (← told .before .before .before .block-of .ensures, ← told .before .before .compute-2x2-eigvals .ensures, told .v .given .1) (c .before .before .two-values .ensures)
+    rw (← told .before .before .before .block-of .ensures, ← told .before .before .compute-2x2-eigvals .ensures, told .v .given .1)
+    (c .before .before .two-values .ensures)
 
 pub two-of-spec : {M : Type 1} → statement M
 unfolding plainTwo leftBy ifPassed

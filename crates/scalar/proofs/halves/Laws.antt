@@ -29,8 +29,10 @@ halves r h =
     record { high = mul-le-mul p p; mixed = mul-le-mul p q; low = mul-le-mul q q }
 
 -- a difference whose lower word runs round, and one whose lower word does not
-pub gap-carry : (ah al bh bl lo : ℕ) → al < 2 ^ 64 → lo < 2 ^ 64 → (lo + bl) % 2 ^ 64 ≡ al → al < bl → bl < 2 ^ 64 → ah ≡ bh + 1 → valueOf ah al ≡ valueOf bh bl + lo
+pub gap-carry : (ah al bh bl lo : ℕ) → al < 2 ^ 64 → lo < 2 ^ 64 → (lo + bl) % 2 ^ 64 ≡ al → al < bl → bl < 2 ^ 64 → ah ≡ bh + 1
+    → valueOf ah al ≡ valueOf bh bl + lo
 gap-carry ah al bh bl lo a l w h b e = omega arith
 
-pub gap-plain : (ah al bh bl lo : ℕ) → al < 2 ^ 64 → lo < 2 ^ 64 → (lo + bl) % 2 ^ 64 ≡ al → bl ≤ al → bl < 2 ^ 64 → ah ≡ bh → valueOf ah al ≡ valueOf bh bl + lo
+pub gap-plain : (ah al bh bl lo : ℕ) → al < 2 ^ 64 → lo < 2 ^ 64 → (lo + bl) % 2 ^ 64 ≡ al → bl ≤ al → bl < 2 ^ 64 → ah ≡ bh
+    → valueOf ah al ≡ valueOf bh bl + lo
 gap-plain ah al bh bl lo a l w h b e = omega arith

@@ -73,7 +73,8 @@ bits-up w a b =
     let t : (w % 2 ^ 52 + 2 ^ 52) * 1024 * 2 ^ 42 ≡ (2 ^ 52 + k) * 2 ^ 52 = omega arith in
     let e : (537 + 485) * 2 ^ 52 + (2 ^ 52 + k / 2) ≡ (w + one) / 2 = omega arith in
     ap (ofBits binary64) (sym e)
-    ∙ answer w ((w % 2 ^ 52 + 2 ^ 52) * 1024) 537 (2 ^ 52 + k / 2) (omega arith) (omega arith) p (subst (λ (x : ℕ). Near x (2 ^ 52 + k / 2)) (sym t) (up k (omega arith))) .is
+    ∙ answer w ((w % 2 ^ 52 + 2 ^ 52) * 1024) 537 (2 ^ 52 + k / 2) (omega arith) (omega arith) p
+    (subst (λ (x : ℕ). Near x (2 ^ 52 + k / 2)) (sym t) (up k (omega arith))) .is
 
 bits-down : (w : ℕ) → w < one → one - 2 ^ 26 ≤ w → ofBits binary64 ((w + one) / 2) ≡ rootOf (ofBits binary64 w)
 bits-down w a b =

@@ -55,7 +55,8 @@ negative-fields (suc f) t h = go (eqb (suc f) 2047) (eqb t 0)
     go : (a b : Bool) → rootOf (cond a (cond b (inf true) nan) (odd 53 true (2 ^ 52 + t) f 1074)) ≡ nan
     go true true = unfold rootOf in refl
     go true false = unfold rootOf in refl
-    go false b = rootOf-neg (odd 53 true (2 ^ 52 + t) f 1074) ((2 ^ 52 + t) * 2 ^ f) (odd-sign 53 true (2 ^ 52 + t) f 1074) (mul-pos {m = 2 ^ 52 + t} (omega arith) (pow-pos f))
+    go false b = rootOf-neg (odd 53 true (2 ^ 52 + t) f 1074) ((2 ^ 52 + t) * 2 ^ f) (odd-sign 53 true (2 ^ 52 + t) f 1074)
+        (mul-pos {m = 2 ^ 52 + t} (omega arith) (pow-pos f))
 
 negative : (w : ℕ) → 2 ^ 63 < w → w < 2 ^ 64 → rootOf (ofBits binary64 w) ≡ nan
 unfolding ofBits

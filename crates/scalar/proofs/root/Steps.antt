@@ -26,7 +26,8 @@ bound-of : (k r : ℕ) → k ≤ 53 → r < 2 ^ k → r < 2 ^ 53
 bound-of k r h l = lt-of-lt-of-le l (pow-mono h)
 
 -- a turn takes two digits of S into the root's square and what is left of it
-turn : (S left rem root k root' rem' : ℕ) → Digits S left rem root k → k < 53 → root' ≤ root * 2 + 1 → rem' ≤ 2 * root' → root' * root' + rem' ≡ (root * root + rem) * 4 + left / 2 ^ 62
+turn : (S left rem root k root' rem' : ℕ) → Digits S left rem root k → k < 53 → root' ≤ root * 2 + 1 → rem' ≤ 2 * root'
+    → root' * root' + rem' ≡ (root * root + rem) * 4 + left / 2 ^ 62
     → Digits S (left % 2 ^ 62 * 4) rem' root' (k + 1)
 turn S left rem root k root' rem' d h b r q =
     let e : 2 ^ (k + 1) ≡ 2 ^ k * 2 = pow-add 2 k 1 in
@@ -37,7 +38,8 @@ turn S left rem root k root' rem' d h b r q =
 
 pub digits-one : (S left rem root k : ℕ) → Digits S left rem root k → k < 53 → root * 4 + 1 ≤ rem * 4 + left / 2 ^ 62
     → Digits S (left % 2 ^ 62 * 4) (rem * 4 + left / 2 ^ 62 - (root * 4 + 1)) (root * 2 + 1) (k + 1)
-digits-one S left rem root k d h t = turn S left rem root k (root * 2 + 1) (rem * 4 + left / 2 ^ 62 - (root * 4 + 1)) d h (omega arith) (omega arith) (omega arith)
+digits-one S left rem root k d h t =
+    turn S left rem root k (root * 2 + 1) (rem * 4 + left / 2 ^ 62 - (root * 4 + 1)) d h (omega arith) (omega arith) (omega arith)
 
 pub digits-zero : (S left rem root k : ℕ) → Digits S left rem root k → k < 53 → rem * 4 + left / 2 ^ 62 < root * 4 + 1
     → Digits S (left % 2 ^ 62 * 4) (rem * 4 + left / 2 ^ 62) (root * 2) (k + 1)
@@ -106,7 +108,8 @@ placed-odd w k u v e z =
     record { is = rw (unitsOf-normal w v, ← e) (b ∙ ap (λ (x : ℕ). q * 1024 * x) (sym p) ∙ c); large = omega arith; room = omega arith; few = omega arith }
 
 -- either way, with no branch
-pub placed-both : (w k : ℕ) → w < 0x7ff0_0000_0000_0000 → 2 ^ 52 ≤ w → k ≡ w / 2 ^ 52 - 1 → Placed w ((w % 2 ^ 52 + 2 ^ 52) * (k % 2 * 1024 + 1024)) (k / 2 + 26)
+pub placed-both : (w k : ℕ) → w < 0x7ff0_0000_0000_0000 → 2 ^ 52 ≤ w → k ≡ w / 2 ^ 52 - 1
+    → Placed w ((w % 2 ^ 52 + 2 ^ 52) * (k % 2 * 1024 + 1024)) (k / 2 + 26)
 placed-both w k u v e = go (k % 2) refl
   where
     go : (b : ℕ) → k % 2 ≡ b → Placed w ((w % 2 ^ 52 + 2 ^ 52) * (k % 2 * 1024 + 1024)) (k / 2 + 26)

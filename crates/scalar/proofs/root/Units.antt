@@ -3,7 +3,8 @@ use Prim.Native.Nat.{ℕ, zero, suc, _+_, _-_, _*_, _/_, _%_, _^_, _≤_, _<_}
 use mathlib.Core.Path.{_≡_, refl, sym, ap, _∙_, subst}
 use mathlib.Core.Bool.{Bool, true, false, not, cond, true≢false, false≢true}
 use mathlib.Core.Logic.{_≢_}
-use native.Mathlib.Nat.{lt-of-not-le, lt-irrefl, lt-of-lt-of-le, not-le-of-lt, mul-one, zero-mul, mul-pos, mul-le-mul-right, mul-lt-mul-of-pos-right, mul-div-cancel}
+use native.Mathlib.Nat.{lt-of-not-le, lt-irrefl, lt-of-lt-of-le, not-le-of-lt, mul-one, zero-mul, mul-pos, mul-le-mul-right, mul-lt-mul-of-pos-right}
+use native.Mathlib.Nat.{mul-div-cancel}
 use native.Mathlib.Omega.{arith}
 use lib.Dec.{T, leb, ltb, eqb, leb→le, nleb→lt, ltb→lt, nltb→le}
 use lib.IntN.{ℤ, pos, negsuc}

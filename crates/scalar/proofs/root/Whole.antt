@@ -15,7 +15,8 @@ record Floor (X r : ℕ) : Type 0 where
 
 -- ---- the root by digits
 
-step : (X a : ℕ) (b : Bool) → (T b → (a * 2 + 1) * (a * 2 + 1) ≤ X) → (T (not b) → X < (a * 2 + 1) * (a * 2 + 1)) → Floor (X / 4) a → Floor X (cond b (a * 2 + 1) (a * 2))
+step : (X a : ℕ) (b : Bool) → (T b → (a * 2 + 1) * (a * 2 + 1) ≤ X) → (T (not b) → X < (a * 2 + 1) * (a * 2 + 1)) → Floor (X / 4) a
+    → Floor X (cond b (a * 2 + 1) (a * 2))
 step X a true h k f = record { within = h tt; beyond = omega arith }
 step X a false h k f = record { within = omega arith; beyond = k tt }
 

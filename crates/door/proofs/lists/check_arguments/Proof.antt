@@ -15,7 +15,8 @@ returns-2 : tie.Need-returns-2
 unfolding listChecks givenChecks
 returns-2 c =
     let ordered : tie.After-enum-told = search in
-    next-then (ordered .before .before .check-order .ensures) (ordered .enum-told .given .1) (next-first _ (c .before .before .check-lengths .ensures) (c .enum-told4 .given .1))
+    next-then (ordered .before .before .check-order .ensures) (ordered .enum-told .given .1)
+    (next-first _ (c .before .before .check-lengths .ensures) (c .enum-told4 .given .1))
 
 returns-3 : tie.Need-returns-3
 unfolding listChecks givenChecks

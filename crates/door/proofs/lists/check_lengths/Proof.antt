@@ -10,7 +10,8 @@ returns-2 : tie.Need-returns-2
 unfolding listLengths
 returns-2 c =
     let first : tie.After-enum-told = search in
-    next-then (first .before .before .check-length .ensures) (first .enum-told .given .1) (next-first _ (c .before .before .check-length2 .ensures) (c .enum-told4 .given .1))
+    next-then (first .before .before .check-length .ensures) (first .enum-told .given .1)
+    (next-first _ (c .before .before .check-length2 .ensures) (c .enum-told4 .given .1))
 
 returns-3 : tie.Need-returns-3
 unfolding listLengths
@@ -21,6 +22,8 @@ returns-3 c =
 
 pub check-lengths-spec : {M : Type 1} → statement M
 unfolding listLengths
-check-lengths-spec = tie.close (tie.spec (λ c. omega (arith, square-64 (c .before .args .c .order) (omega arith))) (λ c. omega (arith, square-64 (c .before .args .c .order) (omega arith)))
-    (λ c κs. omega arith) (λ c. omega arith) (λ c. omega arith) (λ c. next-first _ (c .before .before .check-length .ensures) (c .enum-told2 .given .1)) (λ c. omega arith)
+check-lengths-spec = tie.close (tie.spec (λ c. omega (arith, square-64 (c .before .args .c .order) (omega arith)))
+    (λ c. omega (arith, square-64 (c .before .args .c .order) (omega arith)))
+    (λ c κs. omega arith) (λ c. omega arith) (λ c. omega arith) (λ c. next-first _ (c .before .before .check-length .ensures) (c .enum-told2 .given .1))
+    (λ c. omega arith)
     (λ c κs. omega arith) (λ c. omega arith) (λ c. omega arith) returns-2 (λ c κs. omega arith) returns-3)

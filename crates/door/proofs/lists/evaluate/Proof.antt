@@ -18,13 +18,15 @@ returns-2 : tie.Need-returns-2
 unfolding evaluatedBy
 returns-2 c =
     let came : tie.After-complex-eigenvalues-of-finite = search in
-    rw (came .before .before .before .before .enum-told2 .given .1) (ap (λ r. evaluated (r .answer) (r .re) (r .im)) (came .complex-eigenvalues-of-finite .ensures))
+    rw (came .before .before .before .before .enum-told2 .given .1)
+    (ap (λ r. evaluated (r .answer) (r .re) (r .im)) (came .complex-eigenvalues-of-finite .ensures))
 
 returns-3 : tie.Need-returns-3
 unfolding evaluatedBy
 returns-3 c =
     let came : tie.After-plain-eigenvalues-of-finite = search in
-    rw (came .before .before .before .before .enum-told3 .given .1) (ap (λ r. evaluated (r .answer) (r .values) (r .work)) (came .plain-eigenvalues-of-finite .ensures))
+    rw (came .before .before .before .before .enum-told3 .given .1)
+    (ap (λ r. evaluated (r .answer) (r .values) (r .work)) (came .plain-eigenvalues-of-finite .ensures))
 
 pub evaluate-spec : {M : Type 1} → statement M
 evaluate-spec = tie.close (tie.spec (λ c. omega arith) (λ c κs. omega arith) (λ c. omega arith) (λ c κs. omega arith) (λ c. omega arith) (λ c κs. omega arith)

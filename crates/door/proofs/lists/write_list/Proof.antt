@@ -15,4 +15,5 @@ returns-2 c =
 
 pub write-list-spec : {M : Type 1} → statement M
 unfolding ifPassed
-write-list-spec = tie.close (tie.spec (λ c. omega arith) (λ c. omega arith) (λ c. rw (c .enum-told2 .given .1)) (λ c κs. omega arith) (λ c. omega arith) returns-2)
+write-list-spec =
+    tie.close (tie.spec (λ c. omega arith) (λ c. omega arith) (λ c. rw (c .enum-told2 .given .1)) (λ c κs. omega arith) (λ c. omega arith) returns-2)

@@ -17,7 +17,8 @@ returns-2 : tie.Need-returns-2
 unfolding matrixChecks argumentChecks
 returns-2 c =
     let ordered : tie.After-enum-told = search in
-    next-then (ordered .before .before .check-order .ensures) (ordered .enum-told .given .1) (next-first _ (c .before .before .check-matrices .ensures) (c .enum-told4 .given .1))
+    next-then (ordered .before .before .check-order .ensures) (ordered .enum-told .given .1)
+    (next-first _ (c .before .before .check-matrices .ensures) (c .enum-told4 .given .1))
 
 returns-3 : tie.Need-returns-3
 unfolding matrixChecks argumentChecks
@@ -30,4 +31,5 @@ pub check-arguments-spec : {M : Type 1} → statement M
 unfolding matrixChecks argumentChecks
 check-arguments-spec = tie.close (tie.spec (λ c κs. omega arith) (λ c. omega arith) (λ c. omega arith)
     (λ c. next-first _ (c .before .before .check-order .ensures) (c .enum-told2 .given .1))
-    (λ c. omega (arith, small (c .before))) (λ c. omega (arith, small (c .before))) (λ c κs. omega arith) (λ c. omega arith) (λ c. omega arith) returns-2 (λ c κs. omega arith) returns-3)
+    (λ c. omega (arith, small (c .before))) (λ c. omega (arith, small (c .before))) (λ c κs. omega arith) (λ c. omega arith) (λ c. omega arith) returns-2
+    (λ c κs. omega arith) returns-3)

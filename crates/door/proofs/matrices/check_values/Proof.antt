@@ -8,7 +8,13 @@ use Rattle.door.proofs.matrices.check_values.Tie as tie
 pub check-values-spec : {M : Type 1} → statement M
 unfolding refuse _next_
 check-values-spec = tie.close (tie.spec (λ c κs. search needs) (λ c. rw (outside (c .before .tolerance-fits .ensures) (c .if1 .taken))) (λ c κs. search needs)
-    (λ c. rw (inside (c .before .before .before .tolerance-fits .ensures) (c .before .before .if1 .left), outside (c .before .budget-fits .ensures) (c .if2 .taken)))
+    (λ c. rw (
+      inside (c .before .before .before .tolerance-fits .ensures) (c .before .before .if1 .left),
+      outside (c .before .budget-fits .ensures) (c .if2 .taken),
+    ))
     (λ c κs. search needs)
-    (λ c. let asks : tie.Else1 = search in rw (inside (asks .before .tolerance-fits .ensures) (asks .if1 .left), inside (c .before .before .budget-fits .ensures) (c .before .if2 .left))
+    (λ c. let asks : tie.Else1 = search in rw (
+      inside (asks .before .tolerance-fits .ensures) (asks .if1 .left),
+      inside (c .before .before .budget-fits .ensures) (c .before .if2 .left),
+    )
     (c .check-entries .ensures)))

@@ -11,6 +11,7 @@ on-floats-requires c κs =
     (first .pre .2, length-take-le _ _ (omega arith), fresh-zeros _ 4168 (omega arith), fresh-zeros _ 128 (omega arith))
 
 pub large-spec : {M : Type 1} → statement M
-large-spec = tie.close (tie.spec (λ c. omega arith) (λ c. omega arith) (λ c. fresh-length _ 4168 (omega arith)) (λ c. omega arith) (λ c. fresh-length _ 4168 (omega arith))
+large-spec = tie.close (tie.spec (λ c. omega arith) (λ c. omega arith) (λ c. fresh-length _ 4168 (omega arith)) (λ c. omega arith)
+    (λ c. fresh-length _ 4168 (omega arith))
     (λ c. omega arith) (λ c. omega arith) (λ c. fresh-length _ 128 (omega arith)) on-floats-requires (λ c. omega arith) (λ c. omega arith)
     (λ c. let after-on-floats : tie.After-on-floats = search in after-on-floats .on-floats .ensures))

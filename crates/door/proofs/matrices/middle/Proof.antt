@@ -11,6 +11,7 @@ on-floats-requires c κs =
     (first .pre .2, length-take-le _ _ (omega arith), fresh-zeros _ 1096 (omega arith), fresh-zeros _ 64 (omega arith))
 
 pub middle-spec : {M : Type 1} → statement M
-middle-spec = tie.close (tie.spec (λ c. omega arith) (λ c. omega arith) (λ c. fresh-length _ 1096 (omega arith)) (λ c. omega arith) (λ c. fresh-length _ 1096 (omega arith))
+middle-spec = tie.close (tie.spec (λ c. omega arith) (λ c. omega arith) (λ c. fresh-length _ 1096 (omega arith)) (λ c. omega arith)
+    (λ c. fresh-length _ 1096 (omega arith))
     (λ c. omega arith) (λ c. omega arith) (λ c. fresh-length _ 64 (omega arith)) on-floats-requires (λ c. omega arith) (λ c. omega arith)
     (λ c. let after-on-floats : tie.After-on-floats = search in after-on-floats .on-floats .ensures))

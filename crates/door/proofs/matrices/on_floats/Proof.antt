@@ -43,5 +43,6 @@ returns c =
     (after-write-q .write-q .ensures)
 
 pub on-floats-spec : {M : Type 1} → statement M
-on-floats-spec = tie.close (tie.spec (λ c κs. omega arith) (λ c κs. omega arith) (λ c κs. omega arith) (λ c κs. omega arith) (λ c κs. omega arith) write-q-requires (λ c κs. omega arith)
+on-floats-spec = tie.close (tie.spec (λ c κs. omega arith) (λ c κs. omega arith) (λ c κs. omega arith) (λ c κs. omega arith)
+    (λ c κs. omega arith) write-q-requires (λ c κs. omega arith)
     (λ c. omega arith) (λ c. omega arith) (λ c. omega arith) (λ c. omega arith) (λ c. omega arith) returns)

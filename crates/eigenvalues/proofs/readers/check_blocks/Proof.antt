@@ -32,4 +32,5 @@ returns-3 c =
     )
 
 pub check-blocks-spec : {M : Type 1} → statement M
-check-blocks-spec = tie.close (tie.spec (λ c κs. omega arith) (λ c. omega arith) returns (λ c. omega arith) (λ c κs. omega arith) (λ c. omega arith) returns-2 (λ c. omega arith) returns-3)
+check-blocks-spec = tie.close (tie.spec (λ c κs. omega arith) (λ c. omega arith) returns (λ c. omega arith) (λ c κs. omega arith) (λ c. omega arith) returns-2
+    (λ c. omega arith) returns-3)

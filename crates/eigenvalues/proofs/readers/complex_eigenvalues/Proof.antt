@@ -8,7 +8,8 @@ use Rattle.eigenvalues.proofs.readers.complex_eigenvalues.Statement.{st
 use Rattle.eigenvalues.proofs.readers.complex_eigenvalues.Tie as tie
 
 -- what the checks have come to
-told : (c : tie.After-readable) → let x = c .before .before .before .before .before .args in c .readable .result ≡ readable (complexLengths (x .n) (length (x .t .now)) (length (x .re .now)) (length (x .im .now))) (x .n) (x .t .now)
+told : (c : tie.After-readable) → let x = c .before .before .before .before .before .args in
+    c .readable .result ≡ readable (complexLengths (x .n) (length (x .t .now)) (length (x .re .now)) (length (x .im .now))) (x .n) (x .t .now)
 unfolding complexLengths
 told c = rw (c .before .check-lists .ensures) at (c .readable .ensures)
 

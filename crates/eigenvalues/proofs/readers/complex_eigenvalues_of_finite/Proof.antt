@@ -8,7 +8,8 @@ use Rattle.eigenvalues.proofs.readers.complex_eigenvalues_of_finite.Sta
 use Rattle.eigenvalues.proofs.readers.complex_eigenvalues_of_finite.Tie as tie
 
 -- what the checks have come to
-told : (c : tie.After-finite-readable) → let x = c .before .before .before .before .before .args in c .finite-readable .result ≡ finiteReadable (complexLengths (x .n) (length (x .t .now)) (length (x .re .now)) (length (x .im .now))) (x .n) (x .t .now)
+told : (c : tie.After-finite-readable) → let x = c .before .before .before .before .before .args in
+    c .finite-readable .result ≡ finiteReadable (complexLengths (x .n) (length (x .t .now)) (length (x .re .now)) (length (x .im .now))) (x .n) (x .t .now)
 unfolding complexLengths
 told c = rw (c .before .check-lists .ensures) at (c .finite-readable .ensures)
 
@@ -26,4 +27,5 @@ returns c =
     rw (told (search)) at (done .then-pairs .ensures)
 
 pub complex-eigenvalues-of-finite-spec : {M : Type 1} → statement M
-complex-eigenvalues-of-finite-spec = tie.close (tie.spec (λ c κs. omega arith) (λ c κs. omega arith) then-pairs-requires (λ c. omega arith) (λ c. omega arith) returns)
+complex-eigenvalues-of-finite-spec =
+    tie.close (tie.spec (λ c κs. omega arith) (λ c κs. omega arith) then-pairs-requires (λ c. omega arith) (λ c. omega arith) returns)

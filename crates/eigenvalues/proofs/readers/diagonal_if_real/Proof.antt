@@ -11,7 +11,8 @@ use Rattle.eigenvalues.proofs.readers.diagonal_if_real.Statement.{state
 use Rattle.eigenvalues.proofs.readers.diagonal_if_real.Tie as tie
 
 -- what the checks have come to
-told : (c : tie.After-check-sizes) → let x = c .before .before .before .before .args in c .check-sizes .result ≡ (orderChecks (x .n) next realLengths (x .n) (length (x .t .now)) (length (x .values .now)))
+told : (c : tie.After-check-sizes) → let x = c .before .before .before .before .args in
+    c .check-sizes .result ≡ (orderChecks (x .n) next realLengths (x .n) (length (x .t .now)) (length (x .values .now)))
 unfolding realLengths
 told c = rw (c .before .check-length .ensures) at (c .check-sizes .ensures)
 

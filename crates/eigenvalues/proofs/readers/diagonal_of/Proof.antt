@@ -10,4 +10,5 @@ unfolding leftBy pairCheck refuse ifPassed
 diagonal-of-spec = tie.close (tie.spec (λ c κs. omega arith)
     (λ c. rw (← c .before .any-paired .ensures, c .if1 .taken))
     (λ c κs. omega arith) (λ c. omega arith)
-    (λ c. let after-any-paired : tie.After-any-paired = search in rw (← after-any-paired .any-paired .ensures, c .before .before .before .before .if1 .left, c .before .before .do-eigenvalues .ensures)))
+    (λ c. let after-any-paired : tie.After-any-paired = search in
+    rw (← after-any-paired .any-paired .ensures, c .before .before .before .before .if1 .left, c .before .before .do-eigenvalues .ensures)))

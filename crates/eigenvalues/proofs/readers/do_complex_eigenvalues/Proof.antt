@@ -27,5 +27,6 @@ loop-again c =
 pub do-complex-eigenvalues-spec : {M : Type 1} → statement M
 do-complex-eigenvalues-spec = tie.close (tie.spec Inv-loop μ-loop (λ c. (filled-none _ _ _ (omega arith), filled-none _ _ _ (omega arith), before-first _ _))
     (λ c κs. omega arith) (λ c κs. omega arith)
-    (λ c. omega arith) (λ c. omega arith) (λ c. omega arith) (λ c. omega arith) (λ c. omega arith) (λ c. omega arith) loop-again (λ c. omega arith) (λ c. omega arith)
+    (λ c. omega arith) (λ c. omega arith) (λ c. omega arith) (λ c. omega arith) (λ c. omega arith) (λ c. omega arith) loop-again (λ c. omega arith)
+    (λ c. omega arith)
     (λ c. (filled-done (c .before .loop .inv .0) (omega arith), filled-done (c .before .loop .inv .1) (omega arith))))

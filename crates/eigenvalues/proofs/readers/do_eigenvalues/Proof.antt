@@ -17,7 +17,8 @@ abbrev μ-loop : tie.MeasureT-loop
 μ-loop t n values₀ k₀ values k = n - k
 
 loop-again : tie.Need-loop-again Inv-loop μ-loop
-loop-again c = filled-more (c .before .before .loop .inv) (omega arith) (c .entry .ensures ∙ entryOf-there _ _ _ _ (omega arith) (omega arith) (omega arith) (omega arith))
+loop-again c = filled-more (c .before .before .loop .inv) (omega arith) (c .entry .ensures
+    ∙ entryOf-there _ _ _ _ (omega arith) (omega arith) (omega arith) (omega arith))
 
 pub do-eigenvalues-spec : {M : Type 1} → statement M
 unfolding diagonal

@@ -9,7 +9,8 @@ use Rattle.eigenvalues.proofs.readers.eigenvalues.Statement.{statement}
 use Rattle.eigenvalues.proofs.readers.eigenvalues.Tie as tie
 
 -- what the checks have come to
-told : (c : tie.After-readable) → let x = c .before .before .before .before .args in c .readable .result ≡ readable (realLengths (x .n) (length (x .t .now)) (length (x .values .now))) (x .n) (x .t .now)
+told : (c : tie.After-readable) → let x = c .before .before .before .before .args in
+    c .readable .result ≡ readable (realLengths (x .n) (length (x .t .now)) (length (x .values .now))) (x .n) (x .t .now)
 unfolding realLengths
 told c = rw (c .before .check-length .ensures) at (c .readable .ensures)
 

@@ -8,7 +8,8 @@ use Rattle.eigenvalues.proofs.readers.eigenvalues_of_finite.Statement.{
 use Rattle.eigenvalues.proofs.readers.eigenvalues_of_finite.Tie as tie
 
 -- what the checks have come to
-told : (c : tie.After-finite-readable) → let x = c .before .before .before .before .args in c .finite-readable .result ≡ finiteReadable (realLengths (x .n) (length (x .t .now)) (length (x .values .now))) (x .n) (x .t .now)
+told : (c : tie.After-finite-readable) → let x = c .before .before .before .before .args in
+    c .finite-readable .result ≡ finiteReadable (realLengths (x .n) (length (x .t .now)) (length (x .values .now))) (x .n) (x .t .now)
 unfolding realLengths
 told c = rw (c .before .check-length .ensures) at (c .finite-readable .ensures)
 

@@ -16,11 +16,14 @@ Inv-loop t n before₀ k₀ before k = Sought (notFiniteAt n t) n k × (before �
 abbrev μ-loop : tie.MeasureT-loop
 μ-loop t n before₀ k₀ before k = n - k
 
-tested : (c : tie.After-is-finite Inv-loop μ-loop) → let l = c .before .before .before .before in not (c .is-finite .result) ≡ notFiniteAt (l .before .before .args .n) (l .before .before .args .t .now) (l .loop .k)
-tested c = finite-by _ _ _ _ _ _ _ (c .before .before .before .before .loop .inv .1) (c .before .before .answer-at .ensures) (c .before .eigenvalue-of .ensures) (c .is-finite .ensures)
+tested : (c : tie.After-is-finite Inv-loop μ-loop) → let l =
+    c .before .before .before .before in not (c .is-finite .result) ≡ notFiniteAt (l .before .before .args .n) (l .before .before .args .t .now) (l .loop .k)
+tested c = finite-by _ _ _ _ _ _ _ (c .before .before .before .before .loop .inv .1) (c .before .before .answer-at .ensures) (c .before .eigenvalue-of .ensures)
+    (c .is-finite .ensures)
 
 pub first-value-not-finite-spec : {M : Type 1} → statement M
-first-value-not-finite-spec = tie.close (tie.spec Inv-loop μ-loop (λ c. (sought-none _ _, before-first _ _)) (λ c κs. omega arith) (λ c κs. omega arith) (λ c κs. omega arith)
+first-value-not-finite-spec =
+    tie.close (tie.spec Inv-loop μ-loop (λ c. (sought-none _ _, before-first _ _)) (λ c κs. omega arith) (λ c κs. omega arith) (λ c κs. omega arith)
     (λ c. let at-loop : tie.At-loop Inv-loop μ-loop = search in place-here (at-loop .loop .inv .0) (omega arith) (sym (tested (c .before)) ∙ c .if1 .taken))
     (λ c. omega arith) (λ c. omega arith)
     (λ c. let at-loop : tie.At-loop Inv-loop μ-loop = search in (

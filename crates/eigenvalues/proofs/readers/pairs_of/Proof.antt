@@ -13,7 +13,13 @@ unfolding ifPassed
 returns-2 c =
     let done : tie.After-do-complex-eigenvalues = search in
     let passed : tie.After-enum-told = search in
-    rw (← passed .before .before .check-blocks .ensures, passed .enum-told .given .1, done .do-complex-eigenvalues .ensures .0, done .do-complex-eigenvalues .ensures .1)
+    rw (
+      ← passed .before .before .check-blocks .ensures,
+      passed .enum-told .given .1,
+      done .do-complex-eigenvalues .ensures .0,
+      done .do-complex-eigenvalues .ensures .1,
+    )
 
 pub pairs-of-spec : {M : Type 1} → statement M
-pairs-of-spec = tie.close (tie.spec (λ c κs. omega arith) (λ c. omega arith) (λ c. omega arith) returns (λ c κs. omega arith) (λ c. omega arith) (λ c. omega arith) returns-2)
+pairs-of-spec = tie.close (tie.spec (λ c κs. omega arith) (λ c. omega arith) (λ c. omega arith) returns (λ c κs. omega arith) (λ c. omega arith)
+    (λ c. omega arith) returns-2)

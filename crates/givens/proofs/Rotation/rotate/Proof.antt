@@ -19,7 +19,8 @@ loop-again : tie.Need-loop-again Inv-loop μ-loop
 loop-again c =
     let at-loop : tie.At-loop Inv-loop μ-loop = search in
     let inv = at-loop .loop .inv in
-    down-more inv (omega arith) (rw (c .before .before .before .at .ensures .0, c .before .before .at2 .ensures .0) (turn-down _ _ _ _ _ _ _ (inv .fits .inRows) (inv .from) (inv .done)))
+    down-more inv (omega arith) (rw (c .before .before .before .at .ensures .0, c .before .before .at2 .ensures .0)
+    (turn-down _ _ _ _ _ _ _ (inv .fits .inRows) (inv .from) (inv .done)))
 
 pub rotate-spec : {M : Type 1} → statement M
 unfolding rotated

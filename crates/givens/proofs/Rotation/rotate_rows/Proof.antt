@@ -22,7 +22,8 @@ right c = beside _ _ _ (omega arith) (omega arith)
 loop-again : tie.Need-loop-again Inv-loop μ-loop
 loop-again c =
     let inv = c .before .before .before .before .loop .inv in
-    across-more inv (omega arith) (rw (c .before .before .at .ensures .0) (turn-across _ _ _ _ _ _ (inv .fits .size) (omega arith) (inv .fits .inCols) (inv .done)))
+    across-more inv (omega arith) (rw (c .before .before .at .ensures .0)
+    (turn-across _ _ _ _ _ _ (inv .fits .size) (omega arith) (inv .fits .inCols) (inv .done)))
 
 pub rotate-rows-spec : {M : Type 1} → statement M
 unfolding rotatedRows

@@ -21,23 +21,30 @@ abbrev μ-loop : tie.MeasureT-loop
 μ-loop m n signs q₀ last i₀ q i = i
 
 -- the two tests of a whole matrix
-first : (c : tie.After-block-fits Inv-loop μ-loop) → let x = c .before .before .before .before .args in c .block-fits .result ≡ blockFits (x .n) (length (x .m .now)) (x .n) (x .n)
+first : (c : tie.After-block-fits Inv-loop μ-loop) → let x =
+    c .before .before .before .before .args in c .block-fits .result ≡ blockFits (x .n) (length (x .m .now)) (x .n) (x .n)
 first c = from-row-0 _ _ _ _ (from-column-0 _ _ _ _ (c .block-fits .ensures))
 
-second : (c : tie.After-block-fits2 Inv-loop μ-loop) → let x = c .before .before .before .before .before .before .args in c .block-fits2 .result ≡ blockFits (x .n) (length (x .q .now)) (x .n) (x .n)
+second : (c : tie.After-block-fits2 Inv-loop μ-loop) → let x =
+    c .before .before .before .before .before .before .args in c .block-fits2 .result ≡ blockFits (x .n) (length (x .q .now)) (x .n) (x .n)
 second c = from-row-0 _ _ _ _ (from-column-0 _ _ _ _ (c .block-fits2 .ensures))
 
 fitted : (c : tie.Else1 Inv-loop μ-loop) → let x = c .before .before .before .before .before .args in Fits (x .n) (length (x .m .now)) (x .n) (x .n)
 fitted c = within _ _ _ _ (first (c .before)) (c .if1 .left)
 
-fitted-q : (c : tie.Else2 Inv-loop μ-loop) → let start : tie.Start Inv-loop μ-loop = search in let x = start .args in Fits (x .n) (length (x .q .now)) (x .n) (x .n)
+fitted-q : (c : tie.Else2 Inv-loop μ-loop) → let start : tie.Start Inv-loop μ-loop =
+    search in let x = start .args in Fits (x .n) (length (x .q .now)) (x .n) (x .n)
 fitted-q c = within _ _ _ _ (second (c .before)) (c .if2 .left)
 
 -- after the tests
 passed : (c : tie.Else4 Inv-loop μ-loop) → let start : tie.Start Inv-loop μ-loop = search in let x = start .args in
     assembled (x .n) (x .m .now) (x .signs .now) (x .q .now) ≡ down (withAxis (x .n) (x .m .now) (x .signs .now)) (x .n - 1) (identity (x .n) (x .q .now))
 unfolding assembled
-passed c = rw (inside (first (search)) (c .before .before .before .before .if1 .left), inside (second (search)) (c .before .before .if2 .left), le-leb _ _ (c .if4 .left))
+passed c = rw (
+  inside (first (search)) (c .before .before .before .before .if1 .left),
+  inside (second (search)) (c .before .before .if2 .left),
+  le-leb _ _ (c .if4 .left),
+)
 
 -- the bounds of the loop's column
 bounds : (c : tie.In-loop Inv-loop μ-loop) → let start : tie.Start Inv-loop μ-loop = search in let x = start .args in Column (x .n) (c .before .loop .i - 1)
@@ -56,7 +63,11 @@ returns-3 c = assembled-empty _ _ _ _ (c .if3 .taken)
 
 returns-4 : tie.Need-returns-4 Inv-loop μ-loop
 unfolding assembled
-returns-4 c = rw (inside (first (search)) (c .before .before .before .before .if1 .left), inside (second (search)) (c .before .before .if2 .left), lt-leb _ _ (c .if4 .taken))
+returns-4 c = rw (
+  inside (first (search)) (c .before .before .before .before .if1 .left),
+  inside (second (search)) (c .before .before .if2 .left),
+  lt-leb _ _ (c .if4 .taken),
+)
 
 loop-holds : tie.Need-loop-holds Inv-loop μ-loop
 loop-holds c = (fitted (search), omega arith, omega arith, omega (arith, fitted-q (search)), omega arith, refl)
@@ -73,7 +84,8 @@ loop-again c =
       omega arith,
       omega arith,
       omega arith,
-      rw (c .before .before .reflect-with-sign .ensures, c .before .before .before .signum .ensures) (sym (down-turn (withAxis (x .n) (x .m .now) (x .signs .now)) (at-loop .loop .i) (at-loop .loop .q) (omega arith)) ∙ inv .5),
+      rw (c .before .before .reflect-with-sign .ensures, c .before .before .before .signum .ensures)
+          (sym (down-turn (withAxis (x .n) (x .m .now) (x .signs .now)) (at-loop .loop .i) (at-loop .loop .q) (omega arith)) ∙ inv .5),
     )
 
 returns-5 : tie.Need-returns-5 Inv-loop μ-loop

@@ -13,7 +13,8 @@ returns-2 : tie.Need-returns-2
 returns-2 c =
     let after-norm-squared : tie.After-norm-squared = search in
     let else1 : tie.Else1 = search in
-    axis-none (measured _ _ _ _ _ (else1 .if1 .left) (after-norm-squared .norm-squared .ensures) (c .before .before .before .measure .ensures)) (sym (c .before .is-zero .ensures) ∙ c .if2 .taken)
+    axis-none (measured _ _ _ _ _ (else1 .if1 .left) (after-norm-squared .norm-squared .ensures) (c .before .before .before .measure .ensures))
+    (sym (c .before .is-zero .ensures) ∙ c .if2 .taken)
 
 returns-3 : tie.Need-returns-3
 returns-3 c =
@@ -25,7 +26,8 @@ returns-3 c =
     let after-norm-squared : tie.After-norm-squared = search in
     let else1 : tie.Else1 = search in
     rw (c .before .before .before .normalize-mut .ensures, after-unscale-mut .unscale-mut .ensures, after-sqrt .sqrt .ensures)
-    (axis-made (measured _ _ _ _ _ (else1 .if1 .left) (after-norm-squared .norm-squared .ensures) (after-measure .measure .ensures)) (sym (after-is-zero .is-zero .ensures) ∙ else2 .if2 .left))
+    (axis-made (measured _ _ _ _ _ (else1 .if1 .left) (after-norm-squared .norm-squared .ensures) (after-measure .measure .ensures))
+    (sym (after-is-zero .is-zero .ensures) ∙ else2 .if2 .left))
 
 pub reflection-axis-mut-spec : {M : Type 1} → statement M
 reflection-axis-mut-spec = tie.close (tie.spec

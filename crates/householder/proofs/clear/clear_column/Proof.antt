@@ -29,11 +29,16 @@ returns c = rw (outside (c .before .before .block-fits .ensures) (c .before .if1
 
 returns-2 : tie.Need-returns-2
 unfolding clearOf
-returns-2 c = rw (inside (c .before .before .before .block-fits .ensures) (c .before .before .if1 .left), lt-leb _ _ (c .before .if2 .taken), c .not-a-number2 .ensures)
+returns-2 c =
+    rw (inside (c .before .before .before .block-fits .ensures) (c .before .before .if1 .left), lt-leb _ _ (c .before .if2 .taken), c .not-a-number2 .ensures)
 
 returns-3 : tie.Need-returns-3
 unfolding clearedHere onPart
-returns-3 c = rw (passed (search), ← c .before .before .before .before .reflection-axis-mut .ensures, not-true (c .before .before .before .before .reflection-axis-mut .result .reflected) (c .if3 .taken))
+returns-3 c = rw (
+  passed (search),
+  ← c .before .before .before .before .reflection-axis-mut .ensures,
+  not-true (c .before .before .before .before .reflection-axis-mut .result .reflected) (c .if3 .taken),
+)
 
 -- what stands in the column after the axis routine is the axis
 rewritten : (c : tie.After-reflection-axis-mut) → let start : tie.Start = search in let x = start .args in let ys = c .reflection-axis-mut .last .0 in
@@ -45,7 +50,8 @@ rewritten c =
     let b = bounds (search) in
     let a = place (x .n) (x .icol + 1) (x .icol) in
     let e = place (x .n) (x .n) (x .icol) in
-    onPart-part (λ _. c .reflection-axis-mut .last .0) a e (x .t .now) (omega arith) (omega arith) (c .reflection-axis-mut .kept .0 ∙ part-length a e (x .t .now) (omega arith) (omega arith))
+    onPart-part (λ _. c .reflection-axis-mut .last .0) a e (x .t .now) (omega arith) (omega arith) (c .reflection-axis-mut .kept .0
+    ∙ part-length a e (x .t .now) (omega arith) (omega arith))
 
 returns-4 : tie.Need-returns-4
 unfolding clearedHere onPart

@@ -15,17 +15,26 @@ bounds c = column _ _ (omega arith) (omega arith)
 
 -- the axis in the workspace is the axis
 front : (c : tie.Start) → let x = c .args in
-    part 0 (place (x .n) (x .n) (x .k) - place (x .n) (x .k + 1) (x .k)) (copied (belowRow (x .n) (x .k) (x .t .now)) (x .work .now)) ≡ belowRow (x .n) (x .k) (x .t .now)
+    part 0 (place (x .n) (x .n) (x .k) - place (x .n) (x .k + 1) (x .k)) (copied (belowRow (x .n) (x .k) (x .t .now)) (x .work .now))
+    ≡ belowRow (x .n) (x .k) (x .t .now)
 front c =
     let b = bounds c in
-    copied-to _ _ _ (part-length (place (c .args .n) (c .args .k + 1) (c .args .k)) (place (c .args .n) (c .args .n) (c .args .k)) (c .args .t .now) (omega arith) (omega arith)) (omega arith)
+    copied-to _ _ _ (part-length (place (c .args .n) (c .args .k + 1) (c .args .k)) (place (c .args .n) (c .args .n) (c .args .k)) (c .args .t .now)
+    (omega arith) (omega arith)) (omega arith)
 
 returns : tie.Need-returns
 unfolding bothSides
 returns c =
     let after-reflect-rows-with-sign : tie.After-reflect-rows-with-sign = search in
-    let after-copy-from : tie.After-copy-from = search in
-    (rw (c .before .before .reflect-with-sign .ensures, after-reflect-rows-with-sign .reflect-rows-with-sign .ensures, after-copy-from .copy-from .ensures, front (search)), after-copy-from .copy-from .ensures)
+    let after-copy-from : tie.After-copy-from = search in (
+      rw (
+        c .before .before .reflect-with-sign .ensures,
+        after-reflect-rows-with-sign .reflect-rows-with-sign .ensures,
+        after-copy-from .copy-from .ensures,
+        front (search),
+      ),
+      after-copy-from .copy-from .ensures,
+    )
 
 pub reflect-both-sides-spec : {M : Type 1} → statement M
 reflect-both-sides-spec = tie.close (tie.spec

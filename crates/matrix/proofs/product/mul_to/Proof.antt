@@ -129,7 +129,8 @@ returns-4 c =
     let inv = c .before .loop .inv in
     let x = c .before .before .before .before .before .before .before .before .before .before .before .before .before .before .args in
     let e : c .before .loop .j ≡ length (x .a .now) = omega arith in
-    rw (passed (c .before .before .before .before .before .before .before .before)) (inv .6 ∙ rw (begun (c .before .before .before .before), e) (over _ _ _ _ _ _ _ _ (omega arith)))
+    rw (passed (c .before .before .before .before .before .before .before .before)) (inv .6
+    ∙ rw (begun (c .before .before .before .before), e) (over _ _ _ _ _ _ _ _ (omega arith)))
 
 pub mul-to-spec : {M : Type 1} → statement M
 mul-to-spec = tie.close (tie.spec Inv-loop μ-loop

@@ -35,7 +35,8 @@ made c d h =
     let m = start .args .m in
     let answer = after-eigvals .eigvals .given in
     let v = answer .0 .0 in
-    let asked : lt (modulusOf (v .second ⊖ m .h11)) (modulusOf (v .first ⊖ m .h11)) ≡ lt (c .modulus2 .result) (c .before .modulus .result) = rw (c .modulus2 .ensures, c .before .modulus .ensures) in
+    let asked : lt (modulusOf (v .second ⊖ m .h11)) (modulusOf (v .first ⊖ m .h11)) ≡ lt (c .modulus2 .result) (c .before .modulus .result) =
+    rw (c .modulus2 .ensures, c .before .modulus .ensures) in
     basis-made m v d (sym (after-is-zero .is-zero .ensures) ∙ else1 .if1 .left)
     (sym (answer .1) ∙ after-compute-2x2-eigvals .compute-2x2-eigvals .ensures) (asked ∙ h)
 

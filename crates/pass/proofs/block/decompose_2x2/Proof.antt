@@ -33,7 +33,13 @@ returns-3 c =
     let after-block-at : tie.After-block-at = search in
     let else1 : tie.Else1 = search in
     let turned : tie.After-turn-t = search in
-    rw (eq-eqb _ _ (else1 .if1 .left), c .if2 .left, turned .turn-t .ensures, after-compute-2x2-basis .compute-2x2-basis .ensures, after-block-at .block-at .ensures)
+    rw (
+      eq-eqb _ _ (else1 .if1 .left),
+      c .if2 .left,
+      turned .turn-t .ensures,
+      after-compute-2x2-basis .compute-2x2-basis .ensures,
+      after-block-at .block-at .ensures,
+    )
 
 pub decompose-2x2-spec : {M : Type 1} → statement M
 decompose-2x2-spec = tie.close (tie.spec returns (λ c κs. omega arith) (λ c κs. omega arith) (λ c κs. omega arith) (λ c κs. omega arith)

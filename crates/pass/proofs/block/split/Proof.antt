@@ -43,7 +43,13 @@ returns-3 c =
     let after-block-at : tie.After-block-at = search in
     let turned : tie.After-turn-t = search in
     let asks : tie.Else1 = search in
-    rw (inside (asks .before .block-fits .ensures) (asks .if1 .left), c .if2 .left, turned .turn-t .ensures, after-compute-2x2-basis .compute-2x2-basis .ensures, after-block-at .block-at .ensures)
+    rw (
+      inside (asks .before .block-fits .ensures) (asks .if1 .left),
+      c .if2 .left,
+      turned .turn-t .ensures,
+      after-compute-2x2-basis .compute-2x2-basis .ensures,
+      after-block-at .block-at .ensures,
+    )
 
 pub split-spec : {M : Type 1} → statement M
 split-spec = tie.close (tie.spec (λ c κs. omega arith) returns (λ c κs. omega (arith, fitted (c .before))) (λ c κs. omega arith)

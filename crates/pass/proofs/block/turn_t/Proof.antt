@@ -35,5 +35,6 @@ returns-2 c =
 
 pub turn-t-spec : {M : Type 1} → statement M
 unfolding turnedT
-turn-t-spec = tie.close (tie.spec (λ c. omega arith) (λ c. omega arith) (λ c. rw (c .enum-told .given .1)) (λ c κs. omega arith) (λ c κs. omega arith) (λ c. omega arith)
+turn-t-spec =
+    tie.close (tie.spec (λ c. omega arith) (λ c. omega arith) (λ c. rw (c .enum-told .given .1)) (λ c κs. omega arith) (λ c κs. omega arith) (λ c. omega arith)
     (λ c κs. omega arith) (λ c. omega arith) (λ c κs. omega arith) (λ c. omega arith) returns-2)

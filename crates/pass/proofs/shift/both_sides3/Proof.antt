@@ -18,7 +18,8 @@ returns c =
     let start : tie.Start = search in
     let x = start .args in
     c .before .before .reflect32 .ensures
-    ∙ ap (reflected bare (list3 (x .a)) one (x .n) (x .k) (x .k + 3) (x .n)) (after-reflect-rows3 .reflect-rows3 .ensures ∙ ap (reflectedRows (list3 (x .a)) one (x .n) (x .rows) (x .k)) (after-reflect3 .reflect3 .ensures))
+    ∙ ap (reflected bare (list3 (x .a)) one (x .n) (x .k) (x .k + 3) (x .n)) (after-reflect-rows3 .reflect-rows3 .ensures
+    ∙ ap (reflectedRows (list3 (x .a)) one (x .n) (x .rows) (x .k)) (after-reflect3 .reflect3 .ensures))
     ∙ near-first (list3 (x .a)) one (x .n) (x .k) (omega arith) (omega arith) (x .rows) (x .t .now) (omega arith) (omega arith)
 
 pub both-sides3-spec : {M : Type 1} → statement M

@@ -7,4 +7,5 @@ use Rattle.pass.proofs.shift.column_at.Tie as tie
 
 pub column-at-spec : {M : Type 1} → statement M
 unfolding columnAt
-column-at-spec = tie.close (tie.spec (λ c. rw (le-leb _ _ (c .if1 .taken))) (λ c κs. omega arith) (λ c. rw (lt-leb _ _ (c .before .if1 .left), c .bulge3 .ensures)))
+column-at-spec =
+    tie.close (tie.spec (λ c. rw (le-leb _ _ (c .if1 .taken))) (λ c κs. omega arith) (λ c. rw (lt-leb _ _ (c .before .if1 .left), c .bulge3 .ensures)))

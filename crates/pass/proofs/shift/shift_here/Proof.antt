@@ -19,8 +19,16 @@ abbrev μ-loop : tie.MeasureT-loop
 loop-again : tie.Need-loop-again Inv-loop μ-loop
 loop-again c =
     let stepped : tie.After-chase Inv-loop μ-loop = search in
-    let l = stepped .before .before .before .before .loop in
-    (omega arith, omega arith, omega arith, omega arith, omega arith, omega arith, stepped .chase .ensures ∙ ap (chased _ _ _ (l .k)) (l .inv .6) ∙ sym (range-more _ _ (l .k) _ (l .inv .0)))
+    let l = stepped .before .before .before .before .loop in (
+      omega arith,
+      omega arith,
+      omega arith,
+      omega arith,
+      omega arith,
+      omega arith,
+      stepped .chase .ensures ∙ ap (chased _ _ _ (l .k)) (l .inv .6)
+          ∙ sym (range-more _ _ (l .k) _ (l .inv .0)),
+    )
 
 returns : tie.Need-returns Inv-loop μ-loop
 unfolding passHere
@@ -31,7 +39,8 @@ returns c =
     let x = read .before .before .before .before .args in
     let s = x .w .start in
     let e = x .w .end in
-    let done = range-done (chased (x .asked) (x .w) (read .first-column .result)) s (e - 1) (l .k) (pair (x .t .now) (x .q .now)) (omega arith) (omega arith) (omega arith) in
+    let done = range-done (chased (x .asked) (x .w) (read .first-column .result)) s (e - 1) (l .k) (pair (x .t .now) (x .q .now)) (omega arith) (omega arith)
+    (omega arith) in
     shut .close .ensures ∙ ap (closing (x .asked) (x .w)) (l .inv .6 ∙ done) ∙ rw (read .first-column .ensures)
 
 pub shift-here-spec : {M : Type 1} → statement M

@@ -37,7 +37,12 @@ check-spec = tie.close (tie.spec
     (λ c. rw (kind-right (search), order-some (c .before), lt-ltb _ _ (c .if3 .taken)))
     (λ c κs. omega arith)
     (λ c. let start : tie.Start = search in let h = start .args .h in
-    rw (kind-right (search), order-some (search), order-small (search), ne-eqb (h .length) (16 + 8 * (h .order * h .order)) (λ e. c .if4 .taken (e ∙ sym (c .before .told .ensures)))))
+    rw (
+      kind-right (search),
+      order-some (search),
+      order-small (search),
+      ne-eqb (h .length) (16 + 8 * (h .order * h .order)) (λ e. c .if4 .taken (e ∙ sym (c .before .told .ensures))),
+    ))
     (λ c. omega arith)
     (λ c. rw (kind-right (search), order-some (search), order-small (search), length-right (c .before), lt-ltb _ _ (c .if5 .taken)))
     (λ c. omega arith)

@@ -5,5 +5,6 @@ use Rattle.record.proofs.header.told.Statement.{statement}
 use Rattle.record.proofs.header.told.Tie as tie
 
 pub told-spec : {M : Type 1} → statement M
-told-spec = tie.close (tie.spec (λ c. omega (arith, square-64 (c .args .order) (omega arith))) (λ c. omega (arith, square-64 (c .args .order) (omega arith))) (λ c. omega (arith, square-64 (c .args .order) (omega arith)))
+told-spec = tie.close (tie.spec (λ c. omega (arith, square-64 (c .args .order) (omega arith))) (λ c. omega (arith, square-64 (c .args .order) (omega arith)))
+    (λ c. omega (arith, square-64 (c .args .order) (omega arith)))
     (λ c. omega arith))

@@ -27,7 +27,9 @@ returns c =
     let start : tie.Start = search in
     let x = start .args in (
       line-put (page (x .at) (x .text .now)) (ascii "e") (number (x .k)) (pattern (toBits binary64 (x .re))) (pattern (toBits binary64 (x .im))) newline
-          (after-put .put .ensures .0) (after-put-number .put-number .ensures .0) (rw (after-bits-of .bits-of .ensures) at (after-put-pattern .put-pattern .ensures .0)) (rw (after-bits-of2 .bits-of2 .ensures) at (after-put-pattern2 .put-pattern2 .ensures .0)) (c .before .before .put-byte .ensures .0),
+          (after-put .put .ensures .0) (after-put-number .put-number .ensures .0)
+          (rw (after-bits-of .bits-of .ensures) at (after-put-pattern .put-pattern .ensures .0))
+          (rw (after-bits-of2 .bits-of2 .ensures) at (after-put-pattern2 .put-pattern2 .ensures .0)) (c .before .before .put-byte .ensures .0),
       omega (arith, digits start),
     )
 

@@ -10,7 +10,8 @@ use Rattle.record.proofs.lines.put_eigenvalues.Statement.{statement}
 use Rattle.record.proofs.lines.put_eigenvalues.Tie as tie
 
 abbrev Inv-loop : tie.InvT-loop
-Inv-loop text₀ at n re im behind₀ k₀ text behind k = (k ≤ n) × Listing (λ k. eigenvalueLine k (toBits binary64 (re ! k)) (toBits binary64 (im ! k))) 39 at text₀ k behind text
+Inv-loop text₀ at n re im behind₀ k₀ text behind k =
+    (k ≤ n) × Listing (λ k. eigenvalueLine k (toBits binary64 (re ! k)) (toBits binary64 (im ! k))) 39 at text₀ k behind text
 
 abbrev μ-loop : tie.MeasureT-loop
 μ-loop text₀ at n re im behind₀ k₀ text behind k = n - k

@@ -27,7 +27,8 @@ returns c =
     let start : tie.Start = search in
     let x = start .args in (
       line-put (page (x .at) (x .text .now)) (x .letter ∷ []) (number (x .row)) (number (x .col)) (pattern (toBits binary64 (x .x))) newline
-          (after-put-byte .put-byte .ensures .0) (after-put-number .put-number .ensures .0) (after-put-number2 .put-number2 .ensures .0) (rw (after-bits-of .bits-of .ensures) at (after-put-pattern .put-pattern .ensures .0)) (c .before .before .put-byte2 .ensures .0),
+          (after-put-byte .put-byte .ensures .0) (after-put-number .put-number .ensures .0) (after-put-number2 .put-number2 .ensures .0)
+          (rw (after-bits-of .bits-of .ensures) at (after-put-pattern .put-pattern .ensures .0)) (c .before .before .put-byte2 .ensures .0),
       omega (arith, digits start),
     )
 

@@ -13,8 +13,11 @@ unfolding ascii
 returns c =
     let after-put : tie.After-put = search in
     let start : tie.Start = search in
-    let x = start .args in
-    (both-put (page (x .at) (x .text .now)) (ascii "eigenvalues ") (refusedLine (toldOf (x .r))) (after-put .put .ensures .0) (c .before .before .put-refused .ensures .0), omega arith)
+    let x = start .args in (
+      both-put (page (x .at) (x .text .now)) (ascii "eigenvalues ") (refusedLine (toldOf (x .r))) (after-put .put .ensures .0)
+          (c .before .before .put-refused .ensures .0),
+      omega arith,
+    )
 
 pub put-not-read-spec : {M : Type 1} → statement M
 put-not-read-spec = tie.close (tie.spec (λ c. search needs) (λ c κs. omega arith) (λ c κs. omega arith) (λ c. search needs) returns)

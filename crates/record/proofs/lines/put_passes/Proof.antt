@@ -24,7 +24,8 @@ returns c =
     let start : tie.Start = search in
     let x = start .args in (
       line-put (page (x .at) (x .text .now)) (ascii "order") (number (x .n)) (ascii " passes") (number (x .passes)) newline
-          (after-put .put .ensures .0) (after-put-number .put-number .ensures .0) (after-put2 .put2 .ensures .0) (after-put-number2 .put-number2 .ensures .0) (c .before .before .put-byte .ensures .0),
+          (after-put .put .ensures .0) (after-put-number .put-number .ensures .0) (after-put2 .put2 .ensures .0) (after-put-number2 .put-number2 .ensures .0)
+          (c .before .before .put-byte .ensures .0),
       omega (arith, digits start),
     )
 

@@ -25,7 +25,8 @@ returns c =
     let start : tie.Start = search in
     let x = start .args in (
       line-put (page (x .at) (x .text .now)) (ascii "refused") (number (x .x .number)) (number (x .x .row)) (number (x .x .col)) newline
-          (after-put .put .ensures .0) (after-put-number .put-number .ensures .0) (after-put-number2 .put-number2 .ensures .0) (after-put-number3 .put-number3 .ensures .0) (c .before .before .put-byte .ensures .0),
+          (after-put .put .ensures .0) (after-put-number .put-number .ensures .0) (after-put-number2 .put-number2 .ensures .0)
+          (after-put-number3 .put-number3 .ensures .0) (c .before .before .put-byte .ensures .0),
       omega (arith, digits start),
     )
 

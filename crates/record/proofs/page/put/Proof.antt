@@ -26,5 +26,6 @@ unfolding more
 returns c = let e : c .before .loop .i ≡ length (c .before .before .args .s .now) = omega arith in (rw (c .before .loop .inv .2, e, take-length), refl)
 
 pub put-spec : {M : Type 1} → statement M
-put-spec = tie.close (tie.spec Inv-loop μ-loop (λ c. (omega arith, refl, refl)) (λ c. omega arith) (λ c. omega arith) (λ c. omega arith) (λ c. omega arith) (λ c. omega arith) again
+put-spec = tie.close (tie.spec Inv-loop μ-loop (λ c. (omega arith, refl, refl)) (λ c. omega arith) (λ c. omega arith) (λ c. omega arith) (λ c. omega arith)
+    (λ c. omega arith) again
     (λ c. omega arith) (λ c. omega arith) returns)

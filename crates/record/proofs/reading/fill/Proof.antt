@@ -15,5 +15,8 @@ abbrev μ-loop : tie.MeasureT-loop
 μ-loop fd buf₀ done₀ buf done = length buf₀ - done
 
 pub fill-spec : {M : Type 1} → statement M
-fill-spec = tie.close (tie.spec Inv-loop μ-loop (λ c. omega arith) (λ c. omega arith) (λ c. omega arith) (λ c. omega arith) (λ c κs. omega arith) (λ c. omega arith) (λ c κs. omega arith) (λ c. search needs)
-    (λ c. omega (arith, came _ _ _ _ (omega arith) (sym (c .before .more .given .1) ∙ c .before .before .before .after-read .ensures))) (λ c. omega (arith, came _ _ _ _ (omega arith) (sym (c .before .more .given .1) ∙ c .before .before .before .after-read .ensures))) (λ c. search needs) (λ c. omega arith) (λ c. search needs) (λ c. search needs) (λ c. omega arith) (λ c. search needs) (λ c. omega arith) (λ c. search needs))
+fill-spec = tie.close (tie.spec Inv-loop μ-loop (λ c. omega arith) (λ c. omega arith) (λ c. omega arith) (λ c. omega arith) (λ c κs. omega arith)
+    (λ c. omega arith) (λ c κs. omega arith) (λ c. search needs)
+    (λ c. omega (arith, came _ _ _ _ (omega arith) (sym (c .before .more .given .1) ∙ c .before .before .before .after-read .ensures)))
+    (λ c. omega (arith, came _ _ _ _ (omega arith) (sym (c .before .more .given .1) ∙ c .before .before .before .after-read .ensures))) (λ c. search needs)
+    (λ c. omega arith) (λ c. search needs) (λ c. search needs) (λ c. omega arith) (λ c. search needs) (λ c. omega arith) (λ c. search needs))

@@ -16,4 +16,5 @@ returns-2 c =
     (rw (after-checked .checked .given .1) (c .before .before .put-not-read .ensures .0), omega arith)
 
 pub put-answer-spec : {M : Type 1} → statement M
-put-answer-spec = tie.close (tie.spec (λ c. search needs) (λ c κs. omega arith) (λ c. search needs) (λ c κs. omega arith) (λ c. search needs) returns (λ c. search needs) returns-2)
+put-answer-spec = tie.close (tie.spec (λ c. search needs) (λ c κs. omega arith) (λ c. search needs) (λ c κs. omega arith) (λ c. search needs) returns
+    (λ c. search needs) returns-2)

@@ -18,4 +18,5 @@ returns-2 c =
     (rw (after-answer2 .answer2 .given .1) (c .before .before .put-refused .ensures .0), omega arith)
 
 pub put-decomposed-spec : {M : Type 1} → statement M
-put-decomposed-spec = tie.close (tie.spec (λ c. search needs) (λ c κs. omega arith) (λ c. search needs) (λ c κs. omega arith) (λ c. omega arith) returns (λ c. omega arith) returns-2)
+put-decomposed-spec = tie.close (tie.spec (λ c. search needs) (λ c κs. omega arith) (λ c. search needs) (λ c κs. omega arith) (λ c. omega arith) returns
+    (λ c. omega arith) returns-2)

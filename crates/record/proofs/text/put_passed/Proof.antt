@@ -28,8 +28,10 @@ returns c =
     let put : tie.After-put-decomposed = search in
     let run : tie.After-decompose = search in
     let start : tie.Start = search in
-    let x = start .args in
-    (put .put-decomposed .ensures .0 ∙ ap (λ o. more (decomposedText (x .h .order) (o .answer) (o .pair)) (page 0 (x .text .now))) (run .decompose .ensures), omega arith)
+    let x = start .args in (
+      put .put-decomposed .ensures .0 ∙ ap (λ o. more (decomposedText (x .h .order) (o .answer) (o .pair)) (page 0 (x .text .now))) (run .decompose .ensures),
+      omega arith,
+    )
 
 pub put-passed-spec : {M : Type 1} → statement M
 put-passed-spec = tie.close (tie.spec (λ c. omega arith)

@@ -24,5 +24,6 @@ returns c =
     (put .put-answer .ensures .0 ∙ ap (λ r. more (eigenvaluesText (x .n) (r .answer) (r .re) (r .im)) (page (x .at) (x .text .now))) answered, omega arith)
 
 pub put-read-spec : {M : Type 1} → statement M
-put-read-spec = tie.close (tie.spec (λ c. omega arith) (λ c. fresh-length _ 32 (omega arith)) (λ c. omega arith) (λ c. fresh-length _ 32 (omega arith)) (λ c κs. omega arith) requires
+put-read-spec = tie.close (tie.spec (λ c. omega arith) (λ c. fresh-length _ 32 (omega arith)) (λ c. omega arith) (λ c. fresh-length _ 32 (omega arith))
+    (λ c κs. omega arith) requires
     (λ c. omega arith) returns)

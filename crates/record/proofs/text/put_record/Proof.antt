@@ -36,8 +36,10 @@ returns : tie.Need-returns
 returns c =
     let put : tie.After-put-refused = search in
     let told : tie.After-r = search in
-    let check : tie.After-check = search in
-    (put .put-refused .ensures .0 ∙ ap (put-on check) (sym (refused-text (input check) (start check .pre .1) (sym (checked check) ∙ told .r .given .1))), omega arith)
+    let check : tie.After-check = search in (
+      put .put-refused .ensures .0 ∙ ap (put-on check) (sym (refused-text (input check) (start check .pre .1) (sym (checked check) ∙ told .r .given .1))),
+      omega arith,
+    )
 
 returns-2 : tie.Need-returns-2
 returns-2 c =
@@ -50,5 +52,6 @@ returns-2 c =
     )
 
 pub put-record-spec : {M : Type 1} → statement M
-put-record-spec = tie.close (tie.spec (λ c κs. omega arith) (λ c κs. omega arith) (λ c. search needs) (λ c κs. omega arith) (λ c. search needs) (λ c. omega arith) (λ c. omega arith) (λ c. omega arith) requires
+put-record-spec = tie.close (tie.spec (λ c κs. omega arith) (λ c κs. omega arith) (λ c. search needs) (λ c κs. omega arith) (λ c. search needs)
+    (λ c. omega arith) (λ c. omega arith) (λ c. omega arith) requires
     (λ c. search needs) returns (λ c. search needs) returns-2)

@@ -26,7 +26,8 @@ loop-again c =
     let inv = at-loop .loop .inv in
     let here = turn (search) in
     down-more inv (omega arith)
-    (rw (c .before .before .axpy .ensures, c .before .before .before .before .dot .ensures) (column-turn _ _ _ _ _ _ _ _ (inv .fits .inRows) (omega arith) (inv .from) (inv .done)))
+    (rw (c .before .before .axpy .ensures, c .before .before .before .before .dot .ensures)
+    (column-turn _ _ _ _ _ _ _ _ (inv .fits .inRows) (omega arith) (inv .from) (inv .done)))
 
 pub reflect-with-sign-spec : {M : Type 1} → statement M
 unfolding reflected

@@ -17,9 +17,12 @@ loop-again c =
     let after-first-of : tie.After-first-of Inv-loop μ-loop = search in
     let at-loop : tie.At-loop Inv-loop μ-loop = search in
     let after-sums-of-four : tie.After-sums-of-four Inv-loop μ-loop = search in
-    putting-more (at-loop .loop .inv) (omega arith) (omega arith) (λ e. rw (c .before .before .put-four .ensures, after-first-of .first-of .ensures .0, after-sums-of-four .sums-of-four .ensures) (four-turn _ _ _ _ _ _ _ _ (omega arith) e))
+    putting-more (at-loop .loop .inv) (omega arith) (omega arith)
+    (λ e. rw (c .before .before .put-four .ensures, after-first-of .first-of .ensures .0, after-sums-of-four .sums-of-four .ensures)
+    (four-turn _ _ _ _ _ _ _ _ (omega arith) e))
 
 pub four-rows-spec : {M : Type 1} → statement M
-four-rows-spec = tie.close (tie.spec Inv-loop μ-loop (λ c κs. omega arith) (λ c. putting-begun (omega arith) (omega arith)) (λ c. omega arith) (λ c κs. omega arith) (λ c. omega arith) (λ c. omega arith) (λ c κs. omega arith) (λ c. omega arith) (λ c. omega arith)
+four-rows-spec = tie.close (tie.spec Inv-loop μ-loop (λ c κs. omega arith) (λ c. putting-begun (omega arith) (omega arith)) (λ c. omega arith)
+    (λ c κs. omega arith) (λ c. omega arith) (λ c. omega arith) (λ c κs. omega arith) (λ c. omega arith) (λ c. omega arith)
     loop-again
     (λ c. omega arith) (λ c. putting-done (c .before .loop .inv) (omega arith)))

@@ -21,7 +21,8 @@ returns c = rw (outside (from-row-0 _ _ _ _ (c .before .block-fits .ensures)) (c
 
 returns-2 : tie.Need-returns-2
 unfolding reflectedRows onEntries
-returns-2 c = rw (inside (from-row-0 _ _ _ _ (c .before .before .block-fits .ensures)) (c .before .if1 .left), c .if2 .taken, add-zero) (sym (inBlock-no-columns _ _ _ _ _ _))
+returns-2 c = rw (inside (from-row-0 _ _ _ _ (c .before .before .block-fits .ensures)) (c .before .if1 .left), c .if2 .taken, add-zero)
+    (sym (inBlock-no-columns _ _ _ _ _ _))
 
 -- the eights, then the rows that are left
 returns-3 : tie.Need-returns-3
@@ -34,12 +35,14 @@ returns-3 c =
     let x = start .args in
     let f = fitted (search) in
     rw (inside (from-row-0 _ _ _ _ (after-block-fits .block-fits .ensures)) (else1 .if1 .left))
-    (c .before .before .rows-left .ensures ∙ rows-more (x .a .now) (x .sign) _ _ _ _ _ (x .t .now) _ (f .size) (omega arith) (omega arith) (f .inRows) (f .inCols) (after-rows-by-eight .rows-by-eight .ensures))
+    (c .before .before .rows-left .ensures ∙ rows-more (x .a .now) (x .sign) _ _ _ _ _ (x .t .now) _ (f .size) (omega arith) (omega arith) (f .inRows)
+    (f .inCols) (after-rows-by-eight .rows-by-eight .ensures))
 
 pub reflect-rows-with-sign-spec : {M : Type 1} → statement M
 reflect-rows-with-sign-spec = tie.close (tie.spec
     (λ c κs. omega arith)
     returns
     returns-2
-    (λ c κs. let f = fitted (search) in omega arith) (λ c. let f = fitted (search) in omega arith) (λ c κs. let f = fitted (search) in omega arith) (λ c. omega arith)
+    (λ c κs. let f = fitted (search) in omega arith) (λ c. let f = fitted (search) in omega arith) (λ c κs. let f = fitted (search) in
+    omega arith) (λ c. omega arith)
     returns-3)

@@ -25,8 +25,12 @@ loop-again c =
     let start : tie.Start Inv-loop μ-loop = search in
     let inv = at-loop .loop .inv in
     let x = start .args in
-    let e : (at-loop .loop .b + 1) * 8 ≡ at-loop .loop .b * 8 + 8 = omega arith in
-    (omega arith, omega arith, rw (c .before .before .eight-rows .ensures, e) (rows-more (x .a .now) (x .sign) _ _ _ _ _ (x .t .now) _ (omega arith) (omega arith) (omega arith) (omega arith) (omega arith) (inv .2)))
+    let e : (at-loop .loop .b + 1) * 8 ≡ at-loop .loop .b * 8 + 8 = omega arith in (
+      omega arith,
+      omega arith,
+      rw (c .before .before .eight-rows .ensures, e)
+          (rows-more (x .a .now) (x .sign) _ _ _ _ _ (x .t .now) _ (omega arith) (omega arith) (omega arith) (omega arith) (omega arith) (inv .2)),
+    )
 
 returns : tie.Need-returns Inv-loop μ-loop
 returns c = let e : c .before .loop .b ≡ c .before .before .before .before .args .eights = omega arith in rw e at (c .before .loop .inv .2)

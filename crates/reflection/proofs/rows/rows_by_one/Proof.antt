@@ -25,11 +25,17 @@ loop-again c =
     let at-loop : tie.At-loop Inv-loop μ-loop = search in
     let start : tie.Start Inv-loop μ-loop = search in
     let inv = at-loop .loop .inv in
-    let x = start .args in
-    (omega arith, omega arith, omega arith, rw (c .before .before .one-row .ensures) (rows-more (x .a .now) (x .sign) _ _ _ _ _ (x .t .now) _ (omega arith) (omega arith) (omega arith) (omega arith) (omega arith) (inv .3)))
+    let x = start .args in (
+      omega arith,
+      omega arith,
+      omega arith,
+      rw (c .before .before .one-row .ensures)
+          (rows-more (x .a .now) (x .sign) _ _ _ _ _ (x .t .now) _ (omega arith) (omega arith) (omega arith) (omega arith) (omega arith) (inv .3)),
+    )
 
 returns : tie.Need-returns Inv-loop μ-loop
 returns c = let e : c .before .loop .i ≡ c .before .before .before .before .args .to = omega arith in rw e at (c .before .loop .inv .3)
 
 pub rows-by-one-spec : {M : Type 1} → statement M
-rows-by-one-spec = tie.close (tie.spec Inv-loop μ-loop loop-holds (λ c κs. omega arith) (λ c. omega arith) (λ c. omega arith) loop-again (λ c. omega arith) returns)
+rows-by-one-spec =
+    tie.close (tie.spec Inv-loop μ-loop loop-holds (λ c κs. omega arith) (λ c. omega arith) (λ c. omega arith) loop-again (λ c. omega arith) returns)

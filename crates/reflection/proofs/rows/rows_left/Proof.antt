@@ -11,7 +11,8 @@ returns-2 c =
     let after-four-rows : tie.After-four-rows = search in
     let start : tie.Start = search in
     let x = start .args in
-    c .before .before .rows-by-one2 .ensures ∙ rows-more (x .a .now) (x .sign) _ _ _ _ _ (x .t .now) _ (omega arith) (omega arith) (omega arith) (omega arith) (omega arith) (after-four-rows .four-rows .ensures)
+    c .before .before .rows-by-one2 .ensures ∙ rows-more (x .a .now) (x .sign) _ _ _ _ _ (x .t .now) _ (omega arith) (omega arith) (omega arith) (omega arith)
+    (omega arith) (after-four-rows .four-rows .ensures)
 
 pub rows-left-spec : {M : Type 1} → statement M
 rows-left-spec = tie.close (tie.spec

@@ -11,7 +11,8 @@ use Rattle.reflection.proofs.small.reflect3_with_sign.Statement.{statem
 use Rattle.reflection.proofs.small.reflect3_with_sign.Tie as tie
 
 abbrev Inv-loop : tie.InvT-loop
-Inv-loop t₀ n row c0 c1 sign x y z m-two j₀ t j = Down n row (row + 3) c0 c1 (mirroredColumns bare (list3 (record { x = x; y = y; z = z })) sign n row t₀) t₀ j t
+Inv-loop t₀ n row c0 c1 sign x y z m-two j₀ t j =
+    Down n row (row + 3) c0 c1 (mirroredColumns bare (list3 (record { x = x; y = y; z = z })) sign n row t₀) t₀ j t
 
 abbrev μ-loop : tie.MeasureT-loop
 μ-loop t₀ n row c0 c1 sign x y z m-two j₀ t j = c1 - j
@@ -20,7 +21,8 @@ loop-again : tie.Need-loop-again Inv-loop μ-loop
 loop-again c =
     let at-loop : tie.At-loop Inv-loop μ-loop = search in
     let inv = at-loop .loop .inv in
-    down-more inv (omega arith) (rw (c .before .before .before .first-of .ensures .0) (turn-down-three _ _ _ _ _ _ _ _ (inv .fits .inRows) (inv .from) (inv .done)))
+    down-more inv (omega arith) (rw (c .before .before .before .first-of .ensures .0)
+    (turn-down-three _ _ _ _ _ _ _ _ (inv .fits .inRows) (inv .from) (inv .done)))
 
 pub reflect3-with-sign-spec : {M : Type 1} → statement M
 unfolding reflected

@@ -21,7 +21,8 @@ returns-3 : tie.Need-returns-3
 unfolding lentLengths onlyIf
 returns-3 c =
     let t : tie.After-check-length = search in
-    next-then (t .check-length .ensures) (c .before .before .enum-told .given .1) (rw (not-false (t .before .args .wanted) (c .before .if1 .left)) (c .check-length2 .ensures))
+    next-then (t .check-length .ensures) (c .before .before .enum-told .given .1)
+    (rw (not-false (t .before .args .wanted) (c .before .if1 .left)) (c .check-length2 .ensures))
 
 pub check-lent-spec : {M : Type 1} → statement M
 check-lent-spec = tie.close (tie.spec (λ c κs. omega arith) (λ c. omega arith) (λ c. omega arith) returns returns-2 (λ c κs. omega arith) returns-3)

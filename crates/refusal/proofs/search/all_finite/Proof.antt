@@ -27,11 +27,16 @@ loop-holds c = (omega arith, omega arith, λ _ k l. absurd (omega arith))
 
 loop-again : tie.Need-loop-again Inv-loop μ-loop
 loop-again c =
-    let start : tie.Start Inv-loop μ-loop = search in
-    (omega arith, omega (arith, c .count .ensures .0), λ e. below-more (Finite (start .args .t .now)) _ (c .before .before .before .loop .inv .2 (c .count .ensures .1 e)) (c .count .ensures .2 e))
+    let start : tie.Start Inv-loop μ-loop = search in (
+      omega arith,
+      omega (arith, c .count .ensures .0),
+      λ e. below-more (Finite (start .args .t .now)) _
+          (c .before .before .before .loop .inv .2 (c .count .ensures .1 e)) (c .count .ensures .2 e),
+    )
 
 returns : tie.Need-returns Inv-loop μ-loop
 returns c e k l = c .before .loop .inv .2 (eqb-true _ _ e) k (omega arith)
 
 pub all-finite-spec : {M : Type 1} → statement M
-all-finite-spec = tie.close (tie.spec Inv-loop μ-loop loop-holds (λ c. omega arith) (λ c. omega arith) (λ c κs. omega arith) (λ c. omega arith) (λ c. omega arith) loop-again returns)
+all-finite-spec = tie.close (tie.spec Inv-loop μ-loop loop-holds (λ c. omega arith) (λ c. omega arith) (λ c κs. omega arith) (λ c. omega arith)
+    (λ c. omega arith) loop-again returns)

@@ -19,5 +19,6 @@ loop-again : tie.Need-loop-again Inv-loop μ-loop
 loop-again c = searched-more (c .before .before .before .loop .inv) (omega arith) (omega (arith, c .before .row-spoiling .ensures .0))
 
 pub place-spoiling-spec : {M : Type 1} → statement M
-place-spoiling-spec = tie.close (tie.spec Inv-loop μ-loop (λ c. searched-none _ _) (λ c κs. omega arith) returns (λ c. omega arith) (λ c. omega arith) loop-again
+place-spoiling-spec =
+    tie.close (tie.spec Inv-loop μ-loop (λ c. searched-none _ _) (λ c κs. omega arith) returns (λ c. omega arith) (λ c. omega arith) loop-again
     (λ c. searched-done (c .before .loop .inv) (omega arith)))

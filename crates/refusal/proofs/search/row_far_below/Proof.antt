@@ -20,14 +20,24 @@ spot : (c : tie.In-loop Inv-loop μ-loop) → let x = c .before .before .before 
 spot c = placed _ _ _ (omega arith) (omega arith) (omega arith)
 
 returns : tie.Need-returns Inv-loop μ-loop
-returns c = (sym (first-here _ _ _ (spoils-far _ _ _ _ (omega arith) ∙ ap not (sym (c .before .is-zero .ensures)) ∙ c .if1 .taken)) ∙ c .before .before .before .before .loop .inv .2, omega arith)
+returns c = (
+  sym (first-here _ _ _ (spoils-far _ _ _ _ (omega arith) ∙ ap not (sym (c .before .is-zero .ensures)) ∙ c .if1 .taken))
+      ∙ c .before .before .before .before .loop .inv .2,
+  omega arith,
+)
 
 loop-again : tie.Need-loop-again Inv-loop μ-loop
-loop-again c = (omega arith, omega arith, sym (first-on _ _ _ (omega arith) (spoils-far _ _ _ _ (omega arith) ∙ ap not (sym (c .before .is-zero .ensures)) ∙ c .if1 .left)) ∙ c .before .before .before .before .loop .inv .2)
+loop-again c = (
+  omega arith,
+  omega arith,
+  sym (first-on _ _ _ (omega arith) (spoils-far _ _ _ _ (omega arith) ∙ ap not (sym (c .before .is-zero .ensures))
+      ∙ c .if1 .left)) ∙ c .before .before .before .before .loop .inv .2,
+)
 
 returns-2 : tie.Need-returns-2 Inv-loop μ-loop
 returns-2 c = (sym (first-none _ _ _ (omega arith)) ∙ c .before .loop .inv .2, omega arith)
 
 pub row-far-below-spec : {M : Type 1} → statement M
-row-far-below-spec = tie.close (tie.spec Inv-loop μ-loop (λ c. omega arith) (λ c. (omega arith, omega arith, refl)) (λ c. omega (arith, spot c)) (λ c. omega (arith, spot c)) (λ c. omega (arith, spot c))
+row-far-below-spec = tie.close (tie.spec Inv-loop μ-loop (λ c. omega arith) (λ c. (omega arith, omega arith, refl)) (λ c. omega (arith, spot c))
+    (λ c. omega (arith, spot c)) (λ c. omega (arith, spot c))
     (λ c. omega (arith, spot (c .before))) (λ c κs. omega arith) returns (λ c. omega arith) (λ c. omega arith) loop-again returns-2)

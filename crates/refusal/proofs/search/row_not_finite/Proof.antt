@@ -24,11 +24,16 @@ loop-holds c = (omega arith, refl)
 
 returns : tie.Need-returns Inv-loop μ-loop
 unfolding notFinite
-returns c = (sym (first-here _ _ _ (ap not (sym (c .before .is-finite .ensures)) ∙ c .if1 .taken)) ∙ c .before .before .before .before .loop .inv .1, omega arith)
+returns c =
+    (sym (first-here _ _ _ (ap not (sym (c .before .is-finite .ensures)) ∙ c .if1 .taken)) ∙ c .before .before .before .before .loop .inv .1, omega arith)
 
 loop-again : tie.Need-loop-again Inv-loop μ-loop
 unfolding notFinite
-loop-again c = (omega arith, sym (first-on _ _ _ (omega arith) (ap not (sym (c .before .is-finite .ensures)) ∙ c .if1 .left)) ∙ c .before .before .before .before .loop .inv .1)
+loop-again c = (
+  omega arith,
+  sym (first-on _ _ _ (omega arith) (ap not (sym (c .before .is-finite .ensures)) ∙ c .if1 .left))
+      ∙ c .before .before .before .before .loop .inv .1,
+)
 
 returns-2 : tie.Need-returns-2 Inv-loop μ-loop
 returns-2 c = (sym (first-none _ _ _ (omega arith)) ∙ c .before .loop .inv .1, omega arith)

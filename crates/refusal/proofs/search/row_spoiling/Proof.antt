@@ -10,4 +10,7 @@ row-spoiling-spec = tie.close (tie.spec (λ c. omega arith) (λ c. (row-last _ _
     (λ c κs. omega arith) (λ c. omega arith)
     (λ c. (row-just _ _ _ (omega arith) (sym (c .before .just-below-spoils .ensures) ∙ c .if2 .taken), omega arith))
     (λ c κs. omega arith)
-    (λ c. (c .row-far-below .ensures .0 ∙ row-far _ _ _ (omega arith) (sym (c .before .before .just-below-spoils .ensures) ∙ c .before .if2 .left), omega arith)))
+    (λ c. (
+      c .row-far-below .ensures .0 ∙ row-far _ _ _ (omega arith) (sym (c .before .before .just-below-spoils .ensures) ∙ c .before .if2 .left),
+      omega arith,
+    )))

@@ -12,4 +12,5 @@ abbrev μ-loop : tie.MeasureT-loop
 μ-loop v pattern i₀ i-end i = i-end - i
 
 pub other-than-spec : {M : Type 1} → statement M
-other-than-spec = tie.close (tie.spec Inv-loop μ-loop (λ c. search needs) (λ c. search needs) (λ c. search needs) (λ c κs. search needs) (λ c. search needs) (λ c. search needs) (λ c. search needs) (λ c. search needs) (λ c. search needs))
+other-than-spec = tie.close (tie.spec Inv-loop μ-loop (λ c. search needs) (λ c. search needs) (λ c. search needs) (λ c κs. search needs) (λ c. search needs)
+    (λ c. search needs) (λ c. search needs) (λ c. search needs) (λ c. search needs))

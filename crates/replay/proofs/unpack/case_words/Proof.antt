@@ -11,4 +11,5 @@ abbrev μ-loop : tie.MeasureT-loop
 μ-loop b w₀ k₀ w k = 15 - k
 
 pub case-words-spec : {M : Type 1} → statement M
-case-words-spec = tie.close (tie.spec Inv-loop μ-loop (λ c. search needs) (λ c κs. search needs) (λ c. search needs) (λ c. search needs) (λ c. search needs) (λ c. search needs) (λ c. search needs) (λ c. search needs))
+case-words-spec = tie.close (tie.spec Inv-loop μ-loop (λ c. search needs) (λ c κs. search needs) (λ c. search needs) (λ c. search needs) (λ c. search needs)
+    (λ c. search needs) (λ c. search needs) (λ c. search needs))

@@ -15,8 +15,10 @@ gap-requires c κs = omega (arith, c .square .ensures .1)
 
 -- X + r is r * r and what `gap` answers
 rest : (c : tie.After-gap) → (c .gap .result < 0xffff_ffff_ffff_ffff)
-    → c .before .before .before .args .top * 2 ^ 42 + c .before .before .before .args .r ≡ c .before .before .before .args .r * c .before .before .before .args .r + c .gap .result
-rest c h = omega (arith, c .gap .ensures h, c .before .before .plus .ensures .0, c .before .square .ensures .0, scaled-words (c .before .before .before .args .top))
+    → c .before .before .before .args .top * 2 ^ 42 + c .before .before .before .args .r
+    ≡ c .before .before .before .args .r * c .before .before .before .args .r + c .gap .result
+rest c h =
+    omega (arith, c .gap .ensures h, c .before .before .plus .ensures .0, c .before .square .ensures .0, scaled-words (c .before .before .before .args .top))
 
 returns : tie.Need-returns
 returns c =

@@ -20,7 +20,8 @@ unfolding scaledDown
 returns-2 c =
     let after-is-zero : tie.After-is-zero = search in
     let after-camax : tie.After-camax = search in
-    let some : isZero (largest _) ≡ false = ap isZero (sym (after-camax .camax .ensures)) ∙ sym (after-is-zero .is-zero .ensures) ∙ c .before .before .before .before .if1 .left in
+    let some : isZero (largest _) ≡ false =
+    ap isZero (sym (after-camax .camax .ensures)) ∙ sym (after-is-zero .is-zero .ensures) ∙ c .before .before .before .before .if1 .left in
     (after-camax .camax .ensures, rw (some, c .before .before .unscale-mut .ensures, after-camax .camax .ensures))
 
 pub scale-down-spec : {M : Type 1} → statement M

@@ -7,4 +7,5 @@ use Rattle.schur.proofs.run.unpack.Tie as tie
 pub unpack-spec : {M : Type 1} → statement M
 unfolding reducedPair
 unpack-spec = tie.close (tie.spec (λ c κs. omega arith) (λ c κs. omega arith) (λ c κs. omega arith) (λ c. omega arith) (λ c. omega arith) (λ c. omega arith)
-    (λ c. let after-unpack-q : tie.After-unpack-q = search in let after-new-with-workspace : tie.After-new-with-workspace = search in rw (c .before .before .unpack-h .ensures, after-unpack-q .unpack-q .ensures, ← after-new-with-workspace .new-with-workspace .ensures)))
+    (λ c. let after-unpack-q : tie.After-unpack-q = search in let after-new-with-workspace : tie.After-new-with-workspace = search in
+    rw (c .before .before .unpack-h .ensures, after-unpack-q .unpack-q .ensures, ← after-new-with-workspace .new-with-workspace .ensures)))

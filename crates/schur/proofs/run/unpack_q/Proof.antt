@@ -4,4 +4,5 @@ use Rattle.schur.proofs.run.unpack_q.Statement.{statement}
 use Rattle.schur.proofs.run.unpack_q.Tie as tie
 
 pub unpack-q-spec : {M : Type 1} → statement M
-unpack-q-spec = tie.close (tie.spec (λ c κs. omega arith) (λ c. omega arith) (λ c. rw (c .before .before .before .before .if1 .taken, c .before .before .q .ensures)) (λ c. rw (c .if1 .left)))
+unpack-q-spec = tie.close (tie.spec (λ c κs. omega arith) (λ c. omega arith)
+    (λ c. rw (c .before .before .before .before .if1 .taken, c .before .before .q .ensures)) (λ c. rw (c .if1 .left)))

@@ -28,5 +28,6 @@ returns-2 c =
     rw (eq-eqb _ _ same) (rewriting-done (c .before .loop .inv) (omega arith) ∙ reading-all (x .b .now) (x .a .now) same)
 
 pub decode-spec : {M : Type 1} → statement M
-decode-spec = tie.close (tie.spec Inv-loop μ-loop returns (λ c. rewriting-none _ _ _ (omega arith)) (λ c. omega arith) (λ c κs. omega arith) (λ c κs. omega arith)
+decode-spec =
+    tie.close (tie.spec Inv-loop μ-loop returns (λ c. rewriting-none _ _ _ (omega arith)) (λ c. omega arith) (λ c κs. omega arith) (λ c κs. omega arith)
     (λ c. omega arith) (λ c. omega arith) (λ c. omega arith) (λ c. omega arith) loop-again (λ c. omega arith) returns-2)

@@ -22,7 +22,8 @@ whole : (c : tie.After-block-fits) → let x = c .before .before .args in c .blo
 whole c = from-row-0 _ _ _ _ (from-column-0 _ _ _ _ (c .block-fits .ensures))
 
 -- all entries are finite, so there is none to find
-none : (n : ℕ) (b : List ℕ) → n ≤ 64 → length b / 8 ≡ n * n → ((k : ℕ) → k < length b / 8 → isFinite (floatsOf b ! k) ≡ true) → Nowhere ≡ firstPlace (notFinite n (floatsOf b)) n
+none : (n : ℕ) (b : List ℕ) → n ≤ 64 → length b / 8 ≡ n * n → ((k : ℕ) → k < length b / 8 → isFinite (floatsOf b ! k) ≡ true)
+    → Nowhere ≡ firstPlace (notFinite n (floatsOf b)) n
 unfolding notFinite
 none n b h e finite = sym (none-nowhere _ n (λ i j k l. ap not (finite _ (omega (arith, placed n i j h k l)))))
 

@@ -20,5 +20,6 @@ loop-again : tie.Need-loop-again Inv-loop μ-loop
 loop-again c = searched-more (c .before .before .before .loop .inv) (omega arith) (omega arith)
 
 pub place-not-finite-spec : {M : Type 1} → statement M
-place-not-finite-spec = tie.close (tie.spec Inv-loop μ-loop (λ c. searched-none _ _) (λ c κs. omega arith) returns (λ c. omega arith) (λ c. omega arith) loop-again
+place-not-finite-spec =
+    tie.close (tie.spec Inv-loop μ-loop (λ c. searched-none _ _) (λ c κs. omega arith) returns (λ c. omega arith) (λ c. omega arith) loop-again
     (λ c. searched-done (c .before .loop .inv) (omega arith)))

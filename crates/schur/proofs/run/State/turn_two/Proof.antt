@@ -20,5 +20,6 @@ returns-2 c =
     (rw (lt-leb _ _ (goes .if1 .left), ← parted .split .ensures) (counted .after .ensures .0 _), (omega arith, omega arith, omega arith))
 
 pub turn-two-spec : {M : Type 1} → statement M
-turn-two-spec = tie.close (tie.spec (λ c κs. omega arith) (λ c. omega arith) (λ c. omega arith) returns (λ c. omega arith) (λ c κs. omega arith) (λ c. omega arith)
+turn-two-spec =
+    tie.close (tie.spec (λ c κs. omega arith) (λ c. omega arith) (λ c. omega arith) returns (λ c. omega arith) (λ c κs. omega arith) (λ c. omega arith)
     (λ c. omega arith) returns-2)
