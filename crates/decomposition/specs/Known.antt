@@ -11,7 +11,7 @@ use Rattle.loops.specs.Times.{times}
 use Rattle.loops.specs.First.{firstFrom}
 use Rattle.scalar.specs.Class.{isFinite}
 use Rattle.matrix.specs.Known.{shown}
-use Rattle.matrix.specs.Known.{read as numbers}
+use Rattle.matrix.specs.Known.{numbers}
 use Rattle.schur.specs.Known.{openedSchur}
 use Rattle.pass.specs.Setting.{setting}
 use Rattle.pass.specs.Pair.{pair}

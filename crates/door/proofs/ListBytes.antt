@@ -11,7 +11,7 @@ use Rattle.refusal.specs.Checks.{orderChecks}
 use Rattle.refusal.proofs.ChecksInTurn.{next-passes}
 use Rattle.refusal.proofs.PassedChecks.{order-passes, length-passes}
 use Rattle.eigenvalues.specs.Readers.{realLengths, complexLengths, realRead, complexRead}
-use Rattle.eigenvalues.specs.Readers.{listed as listedFloats}
+use Rattle.eigenvalues.specs.Readers.{leftBy}
 use Rattle.eigenvalues.proofs.KnownFinite.{real-finite, complex-finite}
 use Rattle.plain.specs.Plain.{plainLengths, plainBegun, plainFiniteOf}
 use Rattle.words.specs.Floats.{floatsOf, bytesOf, zeros}
@@ -51,7 +51,7 @@ pub list-read : (e : ListEntry) (n : ℕ) (m re im re' im' : List ℕ) (x x' y y
     → listChecks e n m (length re) (length im) ≡ Passed → length x ≡ n → y ≡ zeros (secondSize e n)
     → evaluated c x' y' ≡ evaluatedBy e n (floatsOf m) x y → re' ≡ ifPassed c (bytesOf x') re → im' ≡ secondWritten e c y' im → answer ≡ checkedNumber c
     → complexListed answer re' im' ≡ listsBytes e n m re im
-unfolding listsBytes realBytes complexBytes plainBytes plainFrom evaluatedBy realRead complexRead plainFiniteOf plainBegun listedFloats listLengths secondLength
+unfolding listsBytes realBytes complexBytes plainBytes plainFrom evaluatedBy realRead complexRead plainFiniteOf plainBegun leftBy listLengths secondLength
     secondSize secondWritten
     checkedNumber ifPassed listChecks
 list-read Real n m re im re' im' x x' y y' c answer passed list zero run left-re left-im told =

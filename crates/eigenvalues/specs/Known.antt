@@ -12,7 +12,7 @@ use Rattle.loops.specs.First.{firstFrom}
 use Rattle.loops.specs.Table.{table}
 use Rattle.scalar.specs.Class.{isFinite}
 use Rattle.matrix.specs.Known.{opened, shown}
-use Rattle.matrix.specs.Known.{read as numbers}
+use Rattle.matrix.specs.Known.{numbers}
 use Rattle.pass.specs.Block.{blockAt, discriminant}
 use Rattle.refusal.specs.declared.refusal.Checked.{Checked}
 use Rattle.refusal.specs.declared.refusal.Checked.the-variants.{Passed, Refused}

@@ -7,7 +7,7 @@ use Prim.Native.Nat.{ℕ}
 use mathlib.Core.List.{List, [], _∷_, map}
 use lib.Ieee.{Float, binary64, ofBits, neg, sub, lt, eq}
 use Rattle.scalar.specs.Sign.{toExpOf}
-use Rattle.matrix.specs.Known.{ofPatterns, shown, opened}
+use Rattle.matrix.specs.Known.{numbers, shown, opened}
 use Rattle.givens.specs.declared.Rotation.{Rotation}
 use Rattle.givens.specs.declared.Turn.{Turn}
 use Rattle.givens.specs.declared.Made.{Made}
@@ -17,11 +17,11 @@ use Rattle.givens.specs.Rotation.{newOf, cancelY}
 use Rattle.givens.specs.Rotated.{turnedRows, rotated, turnedColumns, rotatedRows}
 
 -- cosine, sine and norm; and no number where no rotation is made
-numbers : Turn → List ℕ
-numbers t = shown (t .rotation .c ∷ t .rotation .s ∷ t .norm ∷ [])
+turnShown : Turn → List ℕ
+turnShown t = shown (t .rotation .c ∷ t .rotation .s ∷ t .norm ∷ [])
 
 made : Made → List ℕ
-made (Needed t) = numbers t
+made (Needed t) = turnShown t
 made NoneNeeded = []
 
 -- made from two patterns
@@ -30,7 +30,7 @@ with f x y = f (ofBits binary64 x) (ofBits binary64 y)
 
 -- every definition that a case computes with
 unfoldable pub openedHere : Unit {0}
-unfolding opened numbers made with toExpOf lengthOf signedLength tryNew orIdentity newOf cancelY turnedRows rotated
+unfolding opened turnShown made with toExpOf lengthOf signedLength tryNew orIdentity newOf cancelY turnedRows rotated
     turnedColumns rotatedRows sub lt eq neg
 openedHere = tt
 
@@ -39,7 +39,7 @@ openedHere = tt
 -- 3 4, where products with 1 / 5 have other bits; -3 4; -0 1, whose cosine is -0; 1 -0, whose sine is -0; -1 -0, whose
 -- sine is +0; 0 and 1.2 * 2 ^ -537, where the square is rounded to 2 ^ -1074 and the sine is 1.2; 0 0 and NaN 1, which
 -- give the identity
-news : map numbers (with newOf 0x4008_0000_0000_0000 0x4010_0000_0000_0000
+news : map turnShown (with newOf 0x4008_0000_0000_0000 0x4010_0000_0000_0000
     ∷ with newOf 0xc008_0000_0000_0000 0x4010_0000_0000_0000 ∷ with newOf 0x8000_0000_0000_0000 0x3ff0_0000_0000_0000
     ∷ with newOf 0x3ff0_0000_0000_0000 0x8000_0000_0000_0000 ∷ with newOf 0xbff0_0000_0000_0000 0x8000_0000_0000_0000
     ∷ with newOf 0 0x1e63_3333_3333_3333
@@ -99,7 +99,7 @@ above =
 
 -- Rows 1 and 2 of columns 1 and 2. In column 1 the first turn has other bits where something is fused. In column 2 the
 -- identity keeps the -0, and its inverse makes +0 of it.
-rows : map (λ r. shown (rotated r 3 1 1 3 (ofPatterns above))) turns
+rows : map (λ r. shown (rotated r 3 1 1 3 (numbers above))) turns
     ≡ (0x4022_0000_0000_0000 ∷ 0x4022_0000_0000_0000 ∷ 0x4022_0000_0000_0000 ∷ 0x4022_0000_0000_0000
     ∷ 0xbfe5_1eb8_51eb_8520
     ∷ 0x3fe3_d70a_3d70_a3d8 ∷ 0x4022_0000_0000_0000 ∷ 0xbfe9_9999_9999_999a ∷ 0x3fe3_3333_3333_3333 ∷ [])
@@ -121,7 +121,7 @@ beside =
 
 -- Columns 1 and 2 of the first two rows. In row 0 the first turn has other bits where something is fused. In row 1 the
 -- inverse of the identity keeps the -0, and the identity makes +0 of it.
-columns : map (λ r. shown (rotatedRows r 3 1 2 (ofPatterns beside))) turns
+columns : map (λ r. shown (rotatedRows r 3 1 2 (numbers beside))) turns
     ≡ (0x4022_0000_0000_0000 ∷ 0x4022_0000_0000_0000 ∷ 0x4022_0000_0000_0000 ∷ 0x3fe3_d70a_3d70_a3d8
     ∷ 0x3fe9_9999_9999_999a
     ∷ 0x4022_0000_0000_0000 ∷ 0xbfe5_1eb8_51eb_8520 ∷ 0x3fe3_3333_3333_3333 ∷ 0x4022_0000_0000_0000 ∷ [])
@@ -134,10 +134,10 @@ unfolding openedHere turns beside
 columns = refl
 
 -- a row, a column, a column, a row too many: unchanged
-outside : map (λ r. shown (rotated r 3 2 1 3 (ofPatterns above))) turns
-    ∷ map (λ r. shown (rotated r 3 1 1 4 (ofPatterns above))) turns
-    ∷ map (λ r. shown (rotatedRows r 3 2 2 (ofPatterns above))) turns
-    ∷ map (λ r. shown (rotatedRows r 3 1 4 (ofPatterns above))) turns ∷ []
+outside : map (λ r. shown (rotated r 3 2 1 3 (numbers above))) turns
+    ∷ map (λ r. shown (rotated r 3 1 1 4 (numbers above))) turns
+    ∷ map (λ r. shown (rotatedRows r 3 2 2 (numbers above))) turns
+    ∷ map (λ r. shown (rotatedRows r 3 1 4 (numbers above))) turns ∷ []
     ≡ (above ∷ above ∷ above ∷ []) ∷ (above ∷ above ∷ above ∷ []) ∷ (above ∷ above ∷ above ∷ [])
     ∷ (above ∷ above ∷ above ∷ []) ∷ []
 unfolding openedHere turns above

@@ -4,7 +4,7 @@
 use mathlib.Core.Path.{_≡_, refl}
 use Prim.Native.Nat.{ℕ}
 use mathlib.Core.List.{List, [], _∷_}
-use Rattle.matrix.specs.Known.{ofPatterns, shown}
+use Rattle.matrix.specs.Known.{numbers, shown}
 use Rattle.householder.specs.Known.{openedHere}
 use Rattle.hessenberg.specs.Reduced.{Reduction, reduceColumn, workFits, reduced}
 use Rattle.hessenberg.specs.Unpacked.{ofH, unpackedH, unpackedQ}
@@ -45,15 +45,15 @@ left : Reduction → List (List ℕ)
 left r = shown (r .matrix) ∷ shown (r .work) ∷ []
 
 -- then a workspace of four numbers, which does not fit: nothing is done
-reductions : left (reduced 4 (ofPatterns four) (ofPatterns sevens))
-    ∷ left (reduced 4 (ofPatterns four) (ofPatterns (0 ∷ 0 ∷ 0 ∷ 0 ∷ []))) ∷ []
+reductions : left (reduced 4 (numbers four) (numbers sevens))
+    ∷ left (reduced 4 (numbers four) (numbers (0 ∷ 0 ∷ 0 ∷ 0 ∷ []))) ∷ []
     ≡ (axes ∷ norms ∷ []) ∷ (four ∷ (0 ∷ 0 ∷ 0 ∷ 0 ∷ []) ∷ []) ∷ []
 unfolding openedHess four sevens axes norms left
 reductions = refl
 
 -- H and Q; of Q nothing is read
-unpackings : shown (unpackedH 4 (ofPatterns norms) (ofPatterns axes))
-    ∷ shown (unpackedQ 4 (ofPatterns axes) (ofPatterns norms) (ofPatterns four)) ∷ []
+unpackings : shown (unpackedH 4 (numbers norms) (numbers axes))
+    ∷ shown (unpackedQ 4 (numbers axes) (numbers norms) (numbers four)) ∷ []
     ≡ (0x3fe0_0000_0000_0000 ∷ 0x3fe1_3b86_ea20_ae5d ∷ 0 ∷ 0
     ∷ 0x3fe9_8d3a_cde9_d666 ∷ 0x3fd4_bead_054b_ead3 ∷ 0x3fe2_a49f_0961_2b2d ∷ 0
     ∷ 0xbfb7_281a_6053_e466 ∷ 0x3fec_60d9_cc5e_97cc ∷ 0x3fd6_560f_8586_868c ∷ 0x3fdb_62d7_c9e7_94c0

@@ -12,7 +12,7 @@ use Rattle.loops.specs.Part.{onPart}
 use Rattle.scalar.specs.Sign.{signumOf, toExpOf}
 use Rattle.matrix.specs.Sum.{lanes, bare}
 use Rattle.matrix.specs.Vectors.{copied}
-use Rattle.matrix.specs.Known.{ofPatterns, shown, opened}
+use Rattle.matrix.specs.Known.{numbers, shown, opened}
 use Rattle.reflection.specs.Reflected.{mirroredColumns, reflected, mirroredRows, reflectedRows}
 use Rattle.reflection.specs.Reflected.{down as downColumn}
 use Rattle.householder.specs.Axis.{AxisAnswer, signedNorm, factorOf, shifted, allZero, wayOf, inWay, axisOf}
@@ -37,7 +37,7 @@ columns = (0x4008_0000_0000_0000 ∷ 0x4010_0000_0000_0000 ∷ []) ∷ (0xc008_0
     ∷ (0x1a70_0000_0000_0000 ∷ 0 ∷ [])
     ∷ (0x9a70_0000_0000_0000 ∷ 0 ∷ []) ∷ (0x7ff8_0000_0000_0000 ∷ 0x3ff0_0000_0000_0000 ∷ []) ∷ []
 
-ways : map (λ c. wayOf lanes (ofPatterns c)) columns
+ways : map (λ c. wayOf lanes (numbers c)) columns
     ≡ Reflected ∷ Reflected ∷ Reflected ∷ Reflected ∷ AllZero ∷ TooSmall ∷ TooSmall ∷ Reflected ∷ []
 unfolding openedHere columns
 ways = refl
@@ -58,14 +58,14 @@ answers = (0x3fec_9f25_c5bf_edda ∷ 0x3fdc_9f25_c5bf_edda ∷ 0xc014_0000_0000_
 -- Squares are never -0, so both orders give the same on two or three numbers. 0.6 0.3 0.3 has other bits where the sum
 -- goes from the right; the first four have without the second division. No reflection: -0 becomes +0, and the norm is
 -- +0, or -0 where the first number is below 0.
-axis-known : map (λ c. answer (axisOf lanes (ofPatterns c))) columns
-    ∷ map (λ c. answer (axisOf bare (ofPatterns c))) columns ∷ [] ≡ answers ∷ answers ∷ []
+axis-known : map (λ c. answer (axisOf lanes (numbers c))) columns
+    ∷ map (λ c. answer (axisOf bare (numbers c))) columns ∷ [] ≡ answers ∷ answers ∷ []
 unfolding openedHere columns answer answers
 axis-known = refl
 
 -- nine numbers, whose sums have eight accumulators: all but the flag have other bits left to right, and all of the axis
 -- without the second division
-nine : answer (axisOf lanes (ofPatterns (
+nine : answer (axisOf lanes (numbers (
     0xbfd3_3333_3333_3333 ∷ 0x3fe9_9999_9999_999a ∷ 0x3fe6_6666_6666_6666 ∷ 0x3fd3_3333_3333_3333
     ∷ 0x3fe0_0000_0000_0000
     ∷ 0xbfd9_9999_9999_999a ∷ 0xbfc9_9999_9999_999a ∷ 0xbfec_cccc_cccc_cccd ∷ 0x3fec_cccc_cccc_cccd ∷ [])))
@@ -108,10 +108,10 @@ left r = (toBits binary64 (r .norm) ∷ []) ∷ shown (r .matrix) ∷ shown (r .
 -- places of the workspace. Column 1 has -0 alone below the diagonal: no reflection, and yet +0 stands there afterwards.
 -- Squares that vanish: no reflection, and the norm is -0. Then k = 2, below which there is no row, and a workspace
 -- shorter than 3: NaN, and nothing is done.
-clearings : map left (clearOf 3 0 (ofPatterns full) (ofPatterns work) ∷ clearOf 3 1 (ofPatterns full) (ofPatterns work)
-    ∷ clearOf 3 0 (ofPatterns slight) (ofPatterns work)
-    ∷ clearOf 3 2 (ofPatterns full) (ofPatterns work)
-    ∷ clearOf 3 0 (ofPatterns full) (ofPatterns (0x4008_0000_0000_0000 ∷ 0x4010_0000_0000_0000 ∷ [])) ∷ [])
+clearings : map left (clearOf 3 0 (numbers full) (numbers work) ∷ clearOf 3 1 (numbers full) (numbers work)
+    ∷ clearOf 3 0 (numbers slight) (numbers work)
+    ∷ clearOf 3 2 (numbers full) (numbers work)
+    ∷ clearOf 3 0 (numbers full) (numbers (0x4008_0000_0000_0000 ∷ 0x4010_0000_0000_0000 ∷ [])) ∷ [])
     ≡ ((0xbfe0_0000_0000_0000 ∷ [])
     ∷ (0x3fe0_0000_0000_0000 ∷ 0x3fec_9f25_c5bf_edda ∷ 0x3fdc_9f25_c5bf_edda ∷ 0x3fe3_d70a_3d70_a3d9
     ∷ 0x3fe9_5810_624d_d2f6
@@ -144,9 +144,9 @@ old =
     ∷ 0x4022_0000_0000_0000 ∷ 0x4022_0000_0000_0000 ∷ 0x4022_0000_0000_0000 ∷ 0x4022_0000_0000_0000 ∷ []
 
 -- The signs -0.5 -0: -0 has the sign -1. Then 0.5 +0, which turns both signs. Then a sign is missing: nothing is done.
-qs : map shown (assembled 3 (ofPatterns axes) (ofPatterns (0xbfe0_0000_0000_0000 ∷ 0x8000_0000_0000_0000 ∷ []))
-    (ofPatterns old) ∷ assembled 3 (ofPatterns axes) (ofPatterns (0x3fe0_0000_0000_0000 ∷ 0 ∷ [])) (ofPatterns old)
-    ∷ assembled 3 (ofPatterns axes) (ofPatterns (0x3ff0_0000_0000_0000 ∷ [])) (ofPatterns old) ∷ [])
+qs : map shown (assembled 3 (numbers axes) (numbers (0xbfe0_0000_0000_0000 ∷ 0x8000_0000_0000_0000 ∷ []))
+    (numbers old) ∷ assembled 3 (numbers axes) (numbers (0x3fe0_0000_0000_0000 ∷ 0 ∷ [])) (numbers old)
+    ∷ assembled 3 (numbers axes) (numbers (0x3ff0_0000_0000_0000 ∷ [])) (numbers old) ∷ [])
     ≡ (0x3ff0_0000_0000_0000 ∷ 0 ∷ 0 ∷ 0 ∷ 0x3fe3_3333_3333_3336
     ∷ 0x3fe9_9999_9999_999b ∷ 0 ∷ 0xbf90_624d_d2f1_aa1a ∷ 0x3f88_9374_bc6a_7f26 ∷ [])
     ∷ (0x3ff0_0000_0000_0000 ∷ 0 ∷ 0 ∷ 0 ∷ 0xbfe3_3333_3333_3336

@@ -10,7 +10,7 @@ use mathlib.Core.List.{List, [], _∷_, _++_, map}
 use lib.Ieee.{Float, binary64, ofBits, toBits, add, mul, div, le}
 use Rattle.loops.specs.Times.{times, range}
 use Rattle.scalar.specs.Root.{floorRoot, wholeRoot, scaleOf, unitsRoot, rootOf}
-use Rattle.scalar.specs.Root.{scaled as scaledRoot}
+use Rattle.scalar.specs.Root.{scaledWhole}
 use Rattle.scalar.specs.Sign.{modulusOf}
 use Rattle.matrix.specs.Sum.{bare, lane, lanesSummed, lanes}
 use Rattle.matrix.specs.Vectors.{products, dotOf, normSquared, normOf, eachTo, filled, scaled, unscaled}
@@ -20,17 +20,17 @@ use Rattle.matrix.specs.Entries.{inBlock, onEntries, entryOf, putOf}
 use Rattle.matrix.specs.Product.{along, mulTo}
 
 -- from patterns to numbers, and back
-unfoldable pub ofPatterns : List ℕ → List Float
-ofPatterns = map (ofBits binary64)
+unfoldable pub numbers : List ℕ → List Float
+numbers = map (ofBits binary64)
 
 unfoldable pub shown : List Float → List ℕ
 shown = map (toBits binary64)
 
 -- every definition that a case computes with: one name to unfold them all
 unfoldable pub opened : Unit {0}
-unfolding ofPatterns shown times range bare lane lanesSummed lanes dotOf normSquared normOf eachTo filled scaled
+unfolding numbers shown times range bare lane lanesSummed lanes dotOf normSquared normOf eachTo filled scaled
     unscaled normalized largest blockFits inBlock onEntries entryOf putOf
-    along mulTo modulusOf floorRoot wholeRoot scaleOf scaledRoot unitsRoot rootOf add mul div le ofBits toBits
+    along mulTo modulusOf floorRoot wholeRoot scaleOf scaledWhole unitsRoot rootOf add mul div le ofBits toBits
 opened = tt
 
 -- ---- sums
@@ -51,21 +51,21 @@ y = 0xbfd3_3333_3333_3333 ∷ 0x3fb9_9999_9999_999a ∷ 0xbfb9_9999_9999_999a �
 -- Left to right, with other pairs of accumulators, or fused, both have other bits; with four accumulators the eighteen
 -- have. 0 * -1 + 1 * -0: both products are -0, and the leading zero makes +0 of them. Then lists of different lengths,
 -- and no numbers at all.
-dots : shown (dotOf (ofPatterns x) (ofPatterns y) ∷ dotOf (ofPatterns (x ++ y)) (ofPatterns (y ++ y))
-    ∷ dotOf (ofPatterns (0 ∷ 0x3ff0_0000_0000_0000 ∷ []))
-    (ofPatterns (0xbff0_0000_0000_0000 ∷ 0x8000_0000_0000_0000 ∷ []))
-    ∷ dotOf (ofPatterns (0 ∷ 0x3ff0_0000_0000_0000 ∷ [])) (ofPatterns (0x4018_0000_0000_0000 ∷ [])) ∷ dotOf [] [] ∷ [])
+dots : shown (dotOf (numbers x) (numbers y) ∷ dotOf (numbers (x ++ y)) (numbers (y ++ y))
+    ∷ dotOf (numbers (0 ∷ 0x3ff0_0000_0000_0000 ∷ []))
+    (numbers (0xbff0_0000_0000_0000 ∷ 0x8000_0000_0000_0000 ∷ []))
+    ∷ dotOf (numbers (0 ∷ 0x3ff0_0000_0000_0000 ∷ [])) (numbers (0x4018_0000_0000_0000 ∷ [])) ∷ dotOf [] [] ∷ [])
     ≡ 0x3fb7_0a3d_70a3_d6f8 ∷ 0x4003_c28f_5c28_f5c3 ∷ 0 ∷ 0x7ff8_0000_0000_0000 ∷ 0 ∷ []
 unfolding opened x y
 dots = refl
 
 -- Left to right without a leading zero: the same two products give -0. Then 0.1 + 0.2 + 0.3, which has other bits from
 -- the right; -0 alone; no terms.
-bares : shown (bare 2 (products (ofPatterns (0 ∷ 0x3ff0_0000_0000_0000 ∷ []))
-    (ofPatterns (0xbff0_0000_0000_0000 ∷ 0x8000_0000_0000_0000 ∷ [])))
-    ∷ bare 3 (products (ofPatterns (0x3fb9_9999_9999_999a ∷ 0x3fc9_9999_9999_999a ∷ 0x3fd3_3333_3333_3333 ∷ []))
-    (ofPatterns (0x3ff0_0000_0000_0000 ∷ 0x3ff0_0000_0000_0000 ∷ 0x3ff0_0000_0000_0000 ∷ [])))
-    ∷ bare 1 (products (ofPatterns (0x8000_0000_0000_0000 ∷ [])) (ofPatterns (0x3ff0_0000_0000_0000 ∷ [])))
+bares : shown (bare 2 (products (numbers (0 ∷ 0x3ff0_0000_0000_0000 ∷ []))
+    (numbers (0xbff0_0000_0000_0000 ∷ 0x8000_0000_0000_0000 ∷ [])))
+    ∷ bare 3 (products (numbers (0x3fb9_9999_9999_999a ∷ 0x3fc9_9999_9999_999a ∷ 0x3fd3_3333_3333_3333 ∷ []))
+    (numbers (0x3ff0_0000_0000_0000 ∷ 0x3ff0_0000_0000_0000 ∷ 0x3ff0_0000_0000_0000 ∷ [])))
+    ∷ bare 1 (products (numbers (0x8000_0000_0000_0000 ∷ [])) (numbers (0x3ff0_0000_0000_0000 ∷ [])))
     ∷ bare 0 (products [] []) ∷ [])
     ≡ 0x8000_0000_0000_0000 ∷ 0x3fe3_3333_3333_3334 ∷ 0x8000_0000_0000_0000 ∷ 0 ∷ []
 unfolding opened
@@ -75,22 +75,22 @@ bares = refl
 
 -- The squares of nine numbers, and of 0.1 0.6 0.8: both have other bits in other orders, and the norm of the latter
 -- too. The norm of 3 4, and of no numbers.
-norms : shown (normSquared lanes (ofPatterns x) ∷ normSquared bare
-    (ofPatterns (0x3fb9_9999_9999_999a ∷ 0x3fe3_3333_3333_3333 ∷ 0x3fe9_9999_9999_999a ∷ []))
-    ∷ normOf bare (ofPatterns (0x3fb9_9999_9999_999a ∷ 0x3fe3_3333_3333_3333 ∷ 0x3fe9_9999_9999_999a ∷ []))
-    ∷ normOf lanes (ofPatterns (0x4008_0000_0000_0000 ∷ 0x4010_0000_0000_0000 ∷ [])) ∷ normOf lanes [] ∷ [])
+norms : shown (normSquared lanes (numbers x) ∷ normSquared bare
+    (numbers (0x3fb9_9999_9999_999a ∷ 0x3fe3_3333_3333_3333 ∷ 0x3fe9_9999_9999_999a ∷ []))
+    ∷ normOf bare (numbers (0x3fb9_9999_9999_999a ∷ 0x3fe3_3333_3333_3333 ∷ 0x3fe9_9999_9999_999a ∷ []))
+    ∷ normOf lanes (numbers (0x4008_0000_0000_0000 ∷ 0x4010_0000_0000_0000 ∷ [])) ∷ normOf lanes [] ∷ [])
     ≡ 0x400b_c28f_5c28_f5c4 ∷ 0x3ff0_28f5_c28f_5c2a ∷ 0x3ff0_146d_d682_87f4 ∷ 0x4014_0000_0000_0000 ∷ 0 ∷ []
 unfolding opened x
 norms = refl
 
 -- Of -0; of 1 -3 2 -0; of NaN -1, where the NaN held gives way; of 5 NaN, where the NaN that comes stays; of 5 NaN -1,
 -- where the 5 is forgotten; of no numbers.
-largests : shown (largest (ofPatterns (0x8000_0000_0000_0000 ∷ []))
-    ∷ largest (ofPatterns (0x3ff0_0000_0000_0000 ∷ 0xc008_0000_0000_0000 ∷ 0x4000_0000_0000_0000 ∷ 0x8000_0000_0000_0000
+largests : shown (largest (numbers (0x8000_0000_0000_0000 ∷ []))
+    ∷ largest (numbers (0x3ff0_0000_0000_0000 ∷ 0xc008_0000_0000_0000 ∷ 0x4000_0000_0000_0000 ∷ 0x8000_0000_0000_0000
     ∷ []))
-    ∷ largest (ofPatterns (0x7ff8_0000_0000_0000 ∷ 0xbff0_0000_0000_0000 ∷ []))
-    ∷ largest (ofPatterns (0x4014_0000_0000_0000 ∷ 0x7ff8_0000_0000_0000 ∷ []))
-    ∷ largest (ofPatterns (0x4014_0000_0000_0000 ∷ 0x7ff8_0000_0000_0000 ∷ 0xbff0_0000_0000_0000 ∷ [])) ∷ largest []
+    ∷ largest (numbers (0x7ff8_0000_0000_0000 ∷ 0xbff0_0000_0000_0000 ∷ []))
+    ∷ largest (numbers (0x4014_0000_0000_0000 ∷ 0x7ff8_0000_0000_0000 ∷ []))
+    ∷ largest (numbers (0x4014_0000_0000_0000 ∷ 0x7ff8_0000_0000_0000 ∷ 0xbff0_0000_0000_0000 ∷ [])) ∷ largest []
     ∷ [])
     ≡ 0 ∷ 0x4008_0000_0000_0000 ∷ 0x3ff0_0000_0000_0000 ∷ 0x7ff8_0000_0000_0000 ∷ 0x3ff0_0000_0000_0000 ∷ 0 ∷ []
 unfolding opened
@@ -99,10 +99,10 @@ largests = refl
 -- 3 -0 -1 divided by 10 and times 0.1: 3 / 10 and 3 * 0.1 differ, so no division is a product with a reciprocal. 3 4
 -- -0, each divided by the norm.
 scalings : map shown (unscaled (ofBits binary64 0x4024_0000_0000_0000)
-    (ofPatterns (0x4008_0000_0000_0000 ∷ 0x8000_0000_0000_0000 ∷ 0xbff0_0000_0000_0000 ∷ []))
+    (numbers (0x4008_0000_0000_0000 ∷ 0x8000_0000_0000_0000 ∷ 0xbff0_0000_0000_0000 ∷ []))
     ∷ scaled (ofBits binary64 0x3fb9_9999_9999_999a)
-    (ofPatterns (0x4008_0000_0000_0000 ∷ 0x8000_0000_0000_0000 ∷ 0xbff0_0000_0000_0000 ∷ []))
-    ∷ normalized lanes (ofPatterns (0x4008_0000_0000_0000 ∷ 0x4010_0000_0000_0000 ∷ 0x8000_0000_0000_0000 ∷ [])) ∷ [])
+    (numbers (0x4008_0000_0000_0000 ∷ 0x8000_0000_0000_0000 ∷ 0xbff0_0000_0000_0000 ∷ []))
+    ∷ normalized lanes (numbers (0x4008_0000_0000_0000 ∷ 0x4010_0000_0000_0000 ∷ 0x8000_0000_0000_0000 ∷ [])) ∷ [])
     ≡ (0x3fd3_3333_3333_3333 ∷ 0x8000_0000_0000_0000 ∷ 0xbfb9_9999_9999_999a ∷ [])
     ∷ (0x3fd3_3333_3333_3334 ∷ 0x8000_0000_0000_0000 ∷ 0xbfb9_9999_9999_999a ∷ [])
     ∷ (0x3fe3_3333_3333_3333 ∷ 0x3fe9_9999_9999_999a ∷ 0x8000_0000_0000_0000 ∷ []) ∷ []
@@ -111,8 +111,8 @@ scalings = refl
 
 -- 1 NaN 5 filled with -0, with NaN, and a list without a number
 fills : map shown (filled (ofBits binary64 0x8000_0000_0000_0000)
-    (ofPatterns (0x3ff0_0000_0000_0000 ∷ 0x7ff8_0000_0000_0000 ∷ 0x4014_0000_0000_0000 ∷ []))
-    ∷ filled (ofBits binary64 0x7ff8_0000_0000_0000) (ofPatterns (0x3ff0_0000_0000_0000 ∷ []))
+    (numbers (0x3ff0_0000_0000_0000 ∷ 0x7ff8_0000_0000_0000 ∷ 0x4014_0000_0000_0000 ∷ []))
+    ∷ filled (ofBits binary64 0x7ff8_0000_0000_0000) (numbers (0x3ff0_0000_0000_0000 ∷ []))
     ∷ filled (ofBits binary64 0) [] ∷ [])
     ≡ (0x8000_0000_0000_0000 ∷ 0x8000_0000_0000_0000 ∷ 0x8000_0000_0000_0000 ∷ []) ∷ (0x7ff8_0000_0000_0000 ∷ []) ∷ []
     ∷ []
@@ -134,20 +134,20 @@ square = 0x3ff0_0000_0000_0000 ∷ 0x4000_0000_0000_0000 ∷ 0x4008_0000_0000_00
 
 -- Three places that there are; then row 2 of column 0, where a 3 would be found; column 2; and a matrix with too few
 -- entries.
-entries : shown (entryOf 2 1 0 (ofPatterns square) ∷ entryOf 2 0 1 (ofPatterns square)
-    ∷ entryOf 2 1 1 (ofPatterns square)
-    ∷ entryOf 2 2 0 (ofPatterns square) ∷ entryOf 2 0 2 (ofPatterns square)
-    ∷ entryOf 2 1 0 (ofPatterns (0 ∷ 0x3ff0_0000_0000_0000 ∷ [])) ∷ [])
+entries : shown (entryOf 2 1 0 (numbers square) ∷ entryOf 2 0 1 (numbers square)
+    ∷ entryOf 2 1 1 (numbers square)
+    ∷ entryOf 2 2 0 (numbers square) ∷ entryOf 2 0 2 (numbers square)
+    ∷ entryOf 2 1 0 (numbers (0 ∷ 0x3ff0_0000_0000_0000 ∷ [])) ∷ [])
     ≡ 0x4000_0000_0000_0000 ∷ 0x4008_0000_0000_0000 ∷ 0x8000_0000_0000_0000 ∷ 0x7ff8_0000_0000_0000
     ∷ 0x7ff8_0000_0000_0000 ∷ 0x7ff8_0000_0000_0000 ∷ []
 unfolding opened square
 entries = refl
 
 -- 6 put into two places that there are, and into two that there are not
-puts : map shown (putOf 2 1 0 (ofBits binary64 0x4018_0000_0000_0000) (ofPatterns square)
-    ∷ putOf 2 0 1 (ofBits binary64 0x4018_0000_0000_0000) (ofPatterns square)
-    ∷ putOf 2 2 0 (ofBits binary64 0x4018_0000_0000_0000) (ofPatterns square)
-    ∷ putOf 2 0 2 (ofBits binary64 0x4018_0000_0000_0000) (ofPatterns square) ∷ [])
+puts : map shown (putOf 2 1 0 (ofBits binary64 0x4018_0000_0000_0000) (numbers square)
+    ∷ putOf 2 0 1 (ofBits binary64 0x4018_0000_0000_0000) (numbers square)
+    ∷ putOf 2 2 0 (ofBits binary64 0x4018_0000_0000_0000) (numbers square)
+    ∷ putOf 2 0 2 (ofBits binary64 0x4018_0000_0000_0000) (numbers square) ∷ [])
     ≡ (0x3ff0_0000_0000_0000 ∷ 0x4018_0000_0000_0000 ∷ 0x4008_0000_0000_0000 ∷ 0x8000_0000_0000_0000 ∷ [])
     ∷ (0x3ff0_0000_0000_0000 ∷ 0x4000_0000_0000_0000 ∷ 0x4018_0000_0000_0000 ∷ 0x8000_0000_0000_0000 ∷ []) ∷ square
     ∷ square ∷ []
@@ -168,14 +168,14 @@ work = 0x7ff8_0000_0000_0000 ∷ 0x401c_0000_0000_0000 ∷ 0x7ff8_0000_0000_0000
 -- Two rows of the last two columns times 0.1 -3: -0 and -0 give -0, with a leading zero they would not; 3 * 0.1 and 0.1
 -- * -3 give 0, fused they would not. All rows times 0.3 0.1 0.7: the last has other bits from the right. Then a column
 -- too many, a row too many, and a workspace too short.
-along-rows : map shown (mulTo (ofPatterns (0x3fb9_9999_9999_999a ∷ 0xc008_0000_0000_0000 ∷ [])) 3 2 1 (ofPatterns three)
-    (ofPatterns work)
-    ∷ mulTo (ofPatterns (0x3fd3_3333_3333_3333 ∷ 0x3fb9_9999_9999_999a ∷ 0x3fe6_6666_6666_6666 ∷ [])) 3 3 0
-    (ofPatterns three) (ofPatterns work)
-    ∷ mulTo (ofPatterns (0x3fb9_9999_9999_999a ∷ 0xc008_0000_0000_0000 ∷ [])) 3 2 2 (ofPatterns three) (ofPatterns work)
-    ∷ mulTo (ofPatterns (0x3fb9_9999_9999_999a ∷ 0xc008_0000_0000_0000 ∷ [])) 3 4 1 (ofPatterns three) (ofPatterns work)
-    ∷ mulTo (ofPatterns (0x3fb9_9999_9999_999a ∷ 0xc008_0000_0000_0000 ∷ [])) 3 3 1 (ofPatterns three)
-    (ofPatterns (0 ∷ 0x3ff0_0000_0000_0000 ∷ [])) ∷ [])
+along-rows : map shown (mulTo (numbers (0x3fb9_9999_9999_999a ∷ 0xc008_0000_0000_0000 ∷ [])) 3 2 1 (numbers three)
+    (numbers work)
+    ∷ mulTo (numbers (0x3fd3_3333_3333_3333 ∷ 0x3fb9_9999_9999_999a ∷ 0x3fe6_6666_6666_6666 ∷ [])) 3 3 0
+    (numbers three) (numbers work)
+    ∷ mulTo (numbers (0x3fb9_9999_9999_999a ∷ 0xc008_0000_0000_0000 ∷ [])) 3 2 2 (numbers three) (numbers work)
+    ∷ mulTo (numbers (0x3fb9_9999_9999_999a ∷ 0xc008_0000_0000_0000 ∷ [])) 3 4 1 (numbers three) (numbers work)
+    ∷ mulTo (numbers (0x3fb9_9999_9999_999a ∷ 0xc008_0000_0000_0000 ∷ [])) 3 3 1 (numbers three)
+    (numbers (0 ∷ 0x3ff0_0000_0000_0000 ∷ [])) ∷ [])
     ≡ (0x8000_0000_0000_0000 ∷ 0 ∷ 0x7ff8_0000_0000_0000 ∷ 0x4020_0000_0000_0000 ∷ [])
     ∷ (0x3f9e_b851_eb85_1eb8 ∷ 0x3fdb_851e_b851_eb86 ∷ 0x3fe9_47ae_147a_e148 ∷ 0x4020_0000_0000_0000 ∷ []) ∷ work ∷ work
     ∷ (0 ∷ 0x3ff0_0000_0000_0000 ∷ []) ∷ []

@@ -5,7 +5,7 @@ use mathlib.Core.Bool.{true}
 use mathlib.Core.List.{List, [], _∷_}
 use lib.Ieee.{ofBits, binary64}
 use Rattle.loops.specs.Times.{times}
-use Rattle.matrix.specs.Known.{ofPatterns, shown}
+use Rattle.matrix.specs.Known.{numbers, shown}
 use Rattle.pass.specs.Setting.{setting}
 use Rattle.pass.specs.Pair.{pair}
 use Rattle.refusal.specs.declared.refusal.Refusal.{Refusal}
@@ -69,11 +69,11 @@ reads (checked.Refused r) = refused r
 unfoldable pub answerOf : Call → Answer
 answerOf (Decompose n tolerance budget m) =
     let asked = setting n true (ofBits binary64 tolerance) in
-    let square = ofPatterns (lent (n * n)) in
-    let o = decompositionOf asked budget (ofPatterns m) (pair square square) (ofPatterns (lent (2 * n))) in
+    let square = numbers (lent (n * n)) in
+    let o = decompositionOf asked budget (numbers m) (pair square square) (numbers (lent (2 * n))) in
     answer (decomposes (o .answer)) (shown (o .pair .t) ∷ shown (o .pair .q) ∷ shown (o .work) ∷ [])
 answerOf (Real n t) =
-    let r = realRead n (ofPatterns t) (ofPatterns (lent n)) in answer (reads (r .answer)) (shown (r .values) ∷ [])
+    let r = realRead n (numbers t) (numbers (lent n)) in answer (reads (r .answer)) (shown (r .values) ∷ [])
 answerOf (Complex n t) =
-    let r = complexRead n (ofPatterns t) (ofPatterns (lent n)) (ofPatterns (lent n)) in
+    let r = complexRead n (numbers t) (numbers (lent n)) (numbers (lent n)) in
     answer (reads (r .answer)) (shown (r .re) ∷ shown (r .im) ∷ [])

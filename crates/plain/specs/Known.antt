@@ -6,7 +6,7 @@ use Prim.Native.Nat.{ℕ, _*_}
 use mathlib.Core.List.{List, [], _∷_, map}
 use Rattle.loops.specs.Times.{times}
 use Rattle.matrix.specs.Known.{shown}
-use Rattle.matrix.specs.Known.{read as numbers}
+use Rattle.matrix.specs.Known.{numbers}
 use Rattle.decomposition.specs.Known.{openedDecomposition}
 use Rattle.eigenvalues.specs.Known.{openedReaders, answerOf, Case, case, lent, Fault, fault}
 use Rattle.plain.specs.Plain.{plainLengths, plainTwo, complexChecked, plainRun, plainRead, plainLeft, InPlace}

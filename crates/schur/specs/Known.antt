@@ -8,7 +8,7 @@ use lib.Ieee.{ofBits, binary64, sub, neg, eq, lt, le}
 use Rattle.loops.specs.Constants.{one, epsilon}
 use Rattle.loops.specs.Times.{times}
 use Rattle.loops.specs.Until.{until}
-use Rattle.matrix.specs.Known.{ofPatterns, shown}
+use Rattle.matrix.specs.Known.{numbers, shown}
 use Rattle.givens.specs.Rotation.{lengthOf, signedLength, tryNew, orIdentity, newOf}
 use Rattle.givens.specs.Rotated.{turnedRows, rotated, turnedColumns, rotatedRows}
 use Rattle.hessenberg.specs.Known.{openedHess}
@@ -59,7 +59,7 @@ case n eps budget t = record { order = n; eps = eps; budget = budget; matrix = t
 -- the workspace is full of ones
 ran : Bool → List ℕ → Case → Left
 ran wanted q c = runOf (setting (c .order) wanted (ofBits binary64 (c .eps))) (c .budget)
-    (pair (ofPatterns (c .matrix)) (ofPatterns q)) (times (λ _ w. one ∷ w) (2 * c .order) [])
+    (pair (numbers (c .matrix)) (numbers q)) (times (λ _ w. one ∷ w) (2 * c .order) [])
 
 -- with Q, in which something stands, and without
 withQ : Case → List (List ℕ)

@@ -7,7 +7,7 @@ use lib.Ieee.{ofBits, binary64}
 use Rattle.loops.specs.Constants.{one}
 use Rattle.loops.specs.Times.{times}
 use Rattle.loops.specs.First.{firstFrom}
-use Rattle.matrix.specs.Known.{ofPatterns}
+use Rattle.matrix.specs.Known.{numbers}
 use Rattle.pass.specs.Setting.{setting}
 use Rattle.pass.specs.Pair.{pair}
 use Rattle.schur.specs.Known.{openedSchur, Case}
@@ -25,7 +25,7 @@ case n eps budget t = record { order = n; eps = eps; budget = budget; matrix = t
 of : Case → Bool
 of c =
     let asked = setting (c .order) false (ofBits binary64 (c .eps)) in
-    vanished asked (c .budget) (pair (ofPatterns (c .matrix)) []) (times (λ _ w. one ∷ w) (2 * c .order) [])
+    vanished asked (c .budget) (pair (numbers (c .matrix)) []) (times (λ _ w. one ∷ w) (2 * c .order) [])
 
 -- With the tolerance 0: 2 ^ -521 stands below the diagonal, and in the bulge of the first pass the squares vanish, but
 -- not the numbers: 9 at 2 0. A column of the reduction that is too small, and no pass: what it leaves is overwritten.
