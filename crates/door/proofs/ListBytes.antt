@@ -18,7 +18,7 @@ use Rattle.words.specs.Floats.{floatsOf, bytesOf, zeros}
 use Rattle.words.proofs.Between.{zeros-length, floats-length}
 use Rattle.door.specs.declared.lists.ListEntry.{ListEntry}
 use Rattle.door.specs.declared.lists.ListEntry.the-variants.{Real, Complex, Plain}
-use Rattle.door.specs.Answer.{checkedNumber}
+use Rattle.answer.specs.Answer.{checkedNumber}
 use Rattle.door.specs.Inner.{secondSize, evaluated, evaluatedBy, secondWritten}
 use Rattle.door.specs.Lists.{secondLength, listLengths, listChecks, complexListed, realBytes, complexBytes, plainFrom, plainBytes, listsBytes}
 use Rattle.door.proofs.ListLengths.{list-fit, list-entries}

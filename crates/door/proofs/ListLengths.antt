@@ -14,7 +14,7 @@ use Rattle.eigenvalues.specs.Readers.{readable, realChecks, complexChecks}
 use Rattle.words.specs.Floats.{floatsOf}
 use Rattle.door.specs.declared.lists.ListEntry.{ListEntry}
 use Rattle.door.specs.declared.lists.ListEntry.the-variants.{Real, Complex, Plain}
-use Rattle.door.specs.Answer.{refusalNumber, checkedNumber}
+use Rattle.answer.specs.Answer.{refusalNumber, checkedNumber}
 use Rattle.door.specs.Lists.{secondLength, listLengths, listChecks, complexListed, realBytes, complexBytes, plainFrom, plainBytes, listsBytes}
 
 -- ---- passed

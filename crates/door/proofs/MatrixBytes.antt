@@ -14,7 +14,7 @@ use Rattle.refusal.specs.declared.refusal.Checked.the-variants.{Passed, Refused
 use Rattle.decomposition.specs.Decomposition.{Settlement, decided}
 use Rattle.words.specs.Floats.{floatsOf, bytesOf, zeros}
 use Rattle.door.specs.declared.matrices.Request.{Request}
-use Rattle.door.specs.Answer.{decomposedNumber, refusalNumber}
+use Rattle.answer.specs.Answer.{decomposedNumber, refusalNumber}
 use Rattle.door.specs.Matrices.{askedBy, Matrices, matrices, matrixChecks, writtenMatrices, ranBytes, decomposedFrom, decomposeBytes}
 
 -- after the run

@@ -16,7 +16,7 @@ use Rattle.plain.specs.Plain.{plainRead}
 use Rattle.words.specs.Floats.{floatsOf, bytesOf, zeros}
 use Rattle.door.specs.declared.lists.ListEntry.{ListEntry}
 use Rattle.door.specs.declared.lists.ListEntry.the-variants.{Real, Complex, Plain}
-use Rattle.door.specs.Answer.{refusalNumber, checkedNumber}
+use Rattle.answer.specs.Answer.{refusalNumber, checkedNumber}
 
 -- ---- lengths: eight bytes for each number, and a second list for the complex reader alone
 

@@ -17,7 +17,7 @@ use Rattle.decomposition.specs.Checks.{argumentChecks}
 use Rattle.decomposition.specs.Decomposition.{Settlement, decided}
 use Rattle.words.specs.Floats.{floatsOf, bytesOf, zeros}
 use Rattle.door.specs.declared.matrices.Request.{Request}
-use Rattle.door.specs.Answer.{refusalNumber, decomposedNumber}
+use Rattle.answer.specs.Answer.{refusalNumber, decomposedNumber}
 
 -- ---- what a host asks for; the tolerance is told as its pattern
 

@@ -9,9 +9,9 @@ ghost use Rattle.words.specs.Floats.{bytesOf, zeros};
 ghost use Rattle.door.specs.Lists.{secondLength, listLengths, listChecks, complexListed, listsBytes};
 ghost use Rattle.door.specs.declared.lists.ListEntry.the-variants.{Complex};
 ghost use Rattle.door.specs.Inner.{secondSize, evaluated, evaluatedBy, secondWritten};
-use crate::answer::checked_number;
-use crate::answer::refusal_number;
 use crate::checks::check_entries;
+use answer::checked_number;
+use answer::refusal_number;
 use refusal::Checked;
 use refusal::Refusal;
 

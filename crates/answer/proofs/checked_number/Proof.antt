@@ -1,8 +1,8 @@
--- `door::answer::checked_number` meets its contract. Assumes nothing.
+-- `answer::checked_number` meets its contract. Assumes nothing.
 use borrow.Author.Needs.{needs}
-use Rattle.door.specs.Answer.{checkedNumber}
-use Rattle.door.proofs.answer.checked_number.Statement.{statement}
-use Rattle.door.proofs.answer.checked_number.Tie as tie
+use Rattle.answer.specs.Answer.{checkedNumber}
+use Rattle.answer.proofs.checked_number.Statement.{statement}
+use Rattle.answer.proofs.checked_number.Tie as tie
 
 pub checked-number-spec : {M : Type 1} → statement M
 unfolding checkedNumber

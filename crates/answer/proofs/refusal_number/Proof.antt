@@ -1,9 +1,9 @@
--- `door::answer::refusal_number` meets its contract. Assumes nothing.
+-- `answer::refusal_number` meets its contract. Assumes nothing.
 use borrow.Author.Needs.{needs}
 use mathlib.Core.Path.{ap, _∙_}
-use Rattle.door.specs.Answer.{packed, refusalNumber}
-use Rattle.door.proofs.answer.refusal_number.Statement.{statement}
-use Rattle.door.proofs.answer.refusal_number.Tie as tie
+use Rattle.answer.specs.Answer.{packed, refusalNumber}
+use Rattle.answer.proofs.refusal_number.Statement.{statement}
+use Rattle.answer.proofs.refusal_number.Tie as tie
 
 pub refusal-number-spec : {M : Type 1} → statement M
 unfolding refusalNumber

@@ -1,8 +1,8 @@
--- `door::answer::decomposed_number` meets its contract. Assumes nothing.
+-- `answer::decomposed_number` meets its contract. Assumes nothing.
 use borrow.Author.Needs.{needs}
-use Rattle.door.specs.Answer.{decomposedNumber}
-use Rattle.door.proofs.answer.decomposed_number.Statement.{statement}
-use Rattle.door.proofs.answer.decomposed_number.Tie as tie
+use Rattle.answer.specs.Answer.{decomposedNumber}
+use Rattle.answer.proofs.decomposed_number.Statement.{statement}
+use Rattle.answer.proofs.decomposed_number.Tie as tie
 
 pub decomposed-number-spec : {M : Type 1} → statement M
 unfolding decomposedNumber

@@ -1,6 +1,6 @@
 // An answer as one number, for a host that has no enums.
 ghost use mathlib.Core.Path.{_≡_};
-ghost use Rattle.door.specs.Answer.{packed, refusalNumber, checkedNumber, decomposedNumber};
+ghost use Rattle.answer.specs.Answer.{packed, refusalNumber, checkedNumber, decomposedNumber};
 use decomposition::Decomposed;
 use refusal::Checked;
 use refusal::Refusal;
@@ -15,13 +15,13 @@ fn pack(x: Told) -> u64
     x.number % 65536 * 4294967296 + row * 65536 + col
 }
 
-pub(crate) fn refusal_number(r: Refusal) -> u64
+pub fn refusal_number(r: Refusal) -> u64
     ensures { λ x. ⌜ x ≡ refusalNumber r ⌝ }
 {
     pack(refusal::tell(r))
 }
 
-pub(crate) fn checked_number(c: Checked) -> u64
+pub fn checked_number(c: Checked) -> u64
     ensures { λ x. ⌜ x ≡ checkedNumber c ⌝ }
 {
     match c {
@@ -30,7 +30,7 @@ pub(crate) fn checked_number(c: Checked) -> u64
     }
 }
 
-pub(crate) fn decomposed_number(d: Decomposed) -> u64
+pub fn decomposed_number(d: Decomposed) -> u64
     ensures { λ x. ⌜ x ≡ decomposedNumber d ⌝ }
 {
     match d {

@@ -1,0 +1,2 @@
+-- `Answer`: what the library answers, as one number.
+pub mod Answer
