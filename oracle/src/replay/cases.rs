@@ -129,6 +129,7 @@ impl Made {
             self.covered.count(&answers, wanted);
         }
         if let Some(t) = self.judge.t(*order, entries, *tolerance, *budget) {
+            let t: Vec<f64> = t.into_iter().map(with_x86_nan).collect();
             self.read(*order, &t, Slot::T);
         }
         for (at, count) in TOLERANCES.iter().zip(&mut self.covered.tolerances) {
@@ -267,6 +268,16 @@ impl Made {
             let cycle: Vec<f64> = (0..order * order).map(entry).collect();
             self.plain(order, &cycle);
         }
+    }
+}
+
+/// x with the NaN of x86-64 for any NaN: the crate's are the machine's, and the list is the same on all. Not
+/// inlined, for the reason of `one_nan`.
+#[inline(never)]
+fn with_x86_nan(x: f64) -> f64 {
+    match x.is_nan() {
+        true => f64::from_bits(0xfff8_0000_0000_0000),
+        false => x,
     }
 }
 
