@@ -1,7 +1,8 @@
-//! Which cases the list has. They are drawn from a fixed seed, so the list is always the same.
+//! Which cases the list has. They are drawn from a fixed seed or written out, so the list is always the same.
 
 use super::covered::Covered;
 use super::list::{List, Slot};
+use super::written::{self, Line};
 use crate::call::{Call, Entry};
 use crate::compare::{kept_witnesses, one_in, shapes, Bases, Case, Plan, FAMILIES, TOLERANCES};
 use crate::judge::{Answer, Judge};
@@ -57,6 +58,7 @@ pub fn all() -> Made {
     made.faults();
     made.edges();
     made.long();
+    made.written();
     made
 }
 
@@ -267,6 +269,19 @@ impl Made {
             let entry = |place: usize| f64::from(place % order == (place / order + 1) % order);
             let cycle: Vec<f64> = (0..order * order).map(entry).collect();
             self.plain(order, &cycle);
+        }
+    }
+
+    /// The calls of `calls.txt`, in groups of their own.
+    fn written(&mut self) {
+        for line in written::lines() {
+            match line {
+                Line::Group(name) => self.list.group(&name),
+                Line::Root(number) => self.list.root(number),
+                Line::Call(call, work) => {
+                    self.list.case(&mut self.judge, &call, Slot::Matrix, work);
+                }
+            }
         }
     }
 }
