@@ -16,7 +16,6 @@ mod leaves;
 mod model;
 mod numbers;
 mod options;
-mod outcomes;
 mod random;
 mod records;
 mod replay;
@@ -54,7 +53,6 @@ const COMMANDS: &[(&str, &str, Run)] = &[
         compare::run,
     ),
     ("leaves", "[--write]", leaves::run),
-    ("outcomes", "[--write]", outcomes::run),
     (
         "records",
         "[--write] | --damaged COUNT [--seed HEX]",

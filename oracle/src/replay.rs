@@ -1,13 +1,14 @@
 //! Command `replay`: the list of cases that the program `replay` makes again inside the gate, where there is
 //! no Rust. The cases are drawn here from a fixed seed, from the families, the witnesses, the T's for the
-//! readers and the faults of `compare`, and answered by the judge, who has T, Q, counts and eigenvalues from
-//! the crate and the rest from document 01. The stored list, `crates/replay/stdin`, and what the program is
+//! readers and the faults of `compare`; some are written out in `calls.txt`. They are answered by the judge,
+//! who has T, Q, counts and eigenvalues from the crate and the rest from document 01. The stored list, `crates/replay/stdin`, and what the program is
 //! held to, `crates/replay/stdout`, are compared with these byte for byte; `--write` stores both anew. The
 //! library has no part in it.
 
 mod cases;
 mod covered;
 mod list;
+mod written;
 
 use std::fs;
 

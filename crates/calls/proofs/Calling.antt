@@ -1,47 +1,59 @@
--- A call by the number of its entry, told of the pieces that the code has in hand. Assumes nothing.
-use mathlib.Core.Bool.{true, false}
-use mathlib.Core.Path.{_≡_, ap, _∙_}
-use mathlib.Core.List.{List}
-use mathlib.Core.Logic.{_≢_}
-use borrow.Author.Tests.{eq-eqb, ne-eqb}
+-- What each entry comes to, stated of the pieces that the code has in hand. Assumes nothing.
+use Prim.Native.Nat.{_<_}
+use native.Mathlib.Omega.{arith}
+use mathlib.Core.Bool.{Bool}
+use mathlib.Core.Path.{_≡_, refl, ap}
+use mathlib.Core.List.{List, [], _∷_}
+use lib.ListN.{length, set}
 use lib.Ieee.{Float}
-use Rattle.pass.specs.declared.setting.Setting.{Setting}
+use Rattle.scalar.specs.Root.{rootOf}
+use Rattle.loops.specs.Rounded.{_!_}
+use Rattle.pass.specs.Setting.{setting}
 use Rattle.pass.specs.Pair.{pair}
-use Rattle.refusal.specs.declared.refusal.Told.{Told}
 use Rattle.refusal.specs.declared.refusal.Checked.{Checked}
 use Rattle.decomposition.specs.declared.Decomposed.{Decomposed}
 use Rattle.decomposition.specs.Decomposition.{outcome, decompositionOf}
 use Rattle.eigenvalues.specs.Readers.{read, realRead, complexly, complexRead}
 use Rattle.plain.specs.Plain.{plain, plainOf}
+use Rattle.calls.specs.declared.Entry.the-variants.{Real, Complex, Plain}
+use Rattle.calls.specs.declared.Answer.{Answer}
 use Rattle.calls.specs.declared.Call.{Call}
-use Rattle.calls.specs.Call.{askedFor, came, decomposedTold, checkedTold, decomposedCame, realCame, complexCame, plainCame, callOf}
+use Rattle.calls.specs.Call.{came, decomposedAnswer, checkedAnswer, withOrWithoutQ, rooted, entryOf, callOf}
 
-module _ (call : Call) (m x y z : List Float) (r : Told) where
-  pub with-q : (x' y' z' : List Float) (d : Decomposed) (s : Setting) → call .entry ≡ 1 → s ≡ askedFor call true
-      → outcome d (pair x' y') z' ≡ decompositionOf s (call .budget) m (pair x y) z → r ≡ decomposedTold d → came r x' y' z' ≡ callOf call m x y z
-  unfolding callOf
-  with-q x' y' z' d s h a e k = rw (eq-eqb _ _ h, k) (ap decomposedCame (e ∙ ap (λ s. decompositionOf s (call .budget) m (pair x y) z) a))
+module _ (c : Call) (m x y z : List Float) (r : Answer) where
+  pub decomposition-came : (wanted : Bool) (d : Decomposed) (x' y' z' : List Float)
+      → outcome d (pair x' y') z' ≡ decompositionOf (setting (c .order) wanted (c .tolerance)) (c .budget) m (pair x y) z → r ≡ decomposedAnswer d
+      → came r x' y' z' ≡ withOrWithoutQ wanted c m x y z
+  unfolding withOrWithoutQ
+  decomposition-came wanted d x' y' z' h k = rw k (ap (λ o. came (decomposedAnswer (o .answer)) (o .pair .t) (o .pair .q) (o .work)) h)
 
-  pub without-q : (x' y' z' : List Float) (d : Decomposed) (s : Setting) → call .entry ≢ 1 → call .entry ≡ 2 → s ≡ askedFor call false
-      → outcome d (pair x' y') z' ≡ decompositionOf s (call .budget) m (pair x y) z → r ≡ decomposedTold d → came r x' y' z' ≡ callOf call m x y z
-  unfolding callOf
-  without-q x' y' z' d s h1 h2 a e k =
-      rw (ne-eqb _ _ h1, eq-eqb _ _ h2, k) (ap decomposedCame (e ∙ ap (λ s. decompositionOf s (call .budget) m (pair x y) z) a))
+  module _ (h : Checked) (k : r ≡ checkedAnswer h) where
+    pub real-came : (x' : List Float) → c .entry ≡ Real → read h x' ≡ realRead (c .order) m x → came r x' y z ≡ callOf c m x y z
+    unfolding entryOf
+    real-came x' e p = rw (e, k) (ap (λ o. came (checkedAnswer (o .answer)) (o .values) y z) p)
 
-  pub really : (x' : List Float) (c : Checked) → call .entry ≢ 1 → call .entry ≢ 2 → call .entry ≡ 3 → read c x' ≡ realRead (call .order) m x
-      → r ≡ checkedTold c
-      → came r x' y z ≡ callOf call m x y z
-  unfolding callOf
-  really x' c h1 h2 h3 e k = rw (ne-eqb _ _ h1, ne-eqb _ _ h2, eq-eqb _ _ h3, k) (ap (λ o. realCame o y z) e)
+    pub complex-came : (x' y' : List Float) → c .entry ≡ Complex → complexly h x' y' ≡ complexRead (c .order) m x y → came r x' y' z ≡ callOf c m x y z
+    unfolding entryOf
+    complex-came x' y' e p = rw (e, k) (ap (λ o. came (checkedAnswer (o .answer)) (o .re) (o .im) z) p)
 
-  pub in-pairs : (x' y' : List Float) (c : Checked) → call .entry ≢ 1 → call .entry ≢ 2 → call .entry ≢ 3 → call .entry ≡ 4
-      → complexly c x' y' ≡ complexRead (call .order) m x y → r ≡ checkedTold c
-      → came r x' y' z ≡ callOf call m x y z
-  unfolding callOf
-  in-pairs x' y' c h1 h2 h3 h4 e k = rw (ne-eqb _ _ h1, ne-eqb _ _ h2, ne-eqb _ _ h3, eq-eqb _ _ h4, k) (ap (λ o. complexCame o z) e)
+    pub plain-came : (x' y' : List Float) → c .entry ≡ Plain → plain h x' y' ≡ plainOf (c .order) m x y → came r x' y' z ≡ callOf c m x y z
+    unfolding entryOf
+    plain-came x' y' e p = rw (e, k) (ap (λ o. came (checkedAnswer (o .answer)) (o .values) (o .work) z) p)
 
-  pub plainly : (x' y' : List Float) (c : Checked) → call .entry ≢ 1 → call .entry ≢ 2 → call .entry ≢ 3 → call .entry ≢ 4
-      → plain c x' y' ≡ plainOf (call .order) m x y → r ≡ checkedTold c
-      → came r x' y' z ≡ callOf call m x y z
-  unfolding callOf
-  plainly x' y' c h1 h2 h3 h4 e k = rw (ne-eqb _ _ h1, ne-eqb _ _ h2, ne-eqb _ _ h3, ne-eqb _ _ h4, k) (ap (λ o. plainCame o z) e)
+-- ---- the root, by the lengths that the code tests
+
+pub none-given : (m x : List Float) → length m ≡ 0 → x ≡ rooted m x
+unfolding rooted
+none-given [] x h = refl
+none-given (a ∷ m) x h = absurd (omega arith)
+
+pub none-lent : (m x : List Float) → length x ≡ 0 → x ≡ rooted m x
+unfolding rooted
+none-lent [] x h = refl
+none-lent (a ∷ m) [] h = refl
+none-lent (a ∷ m) (b ∷ x) h = absurd (omega arith)
+
+pub root-put : (m x : List Float) → 0 < length m → set x 0 (rootOf (m ! 0)) ≡ rooted m x
+unfolding rooted
+root-put [] x h = absurd (omega arith)
+root-put (a ∷ m) x h = refl

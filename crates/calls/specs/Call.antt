@@ -1,69 +1,61 @@
--- A call of an entry by its number: what is told, and what the three lent slices hold afterwards. Each entry is the
--- library's definition of it; a slice that it does not have stays as it was.
-use Prim.Native.Nat.{ℕ}
-use mathlib.Core.Bool.{Bool, true, false, cond}
-use mathlib.Core.List.{List}
-use lib.Dec.{eqb}
+-- A call by its entry: what is answered, and what the three lent slices hold afterwards. Each entry is the library's definition of it; a slice that it does not
+-- have stays as it was.
+use mathlib.Core.Bool.{Bool, true, false}
+use mathlib.Core.List.{List, [], _∷_}
+use lib.ListN.{set}
 use lib.Ieee.{Float}
-use Rattle.pass.specs.declared.setting.Setting.{Setting}
+use Rattle.scalar.specs.Root.{rootOf}
 use Rattle.pass.specs.Setting.{setting}
 use Rattle.pass.specs.Pair.{pair}
-use Rattle.refusal.specs.declared.refusal.Told.{Told}
 use Rattle.refusal.specs.declared.refusal.Checked.{Checked}
-use Rattle.refusal.specs.declared.refusal.Checked.the-variants.{Passed, Refused}
+use Rattle.refusal.specs.declared.refusal.Checked.the-variants as checks
 use Rattle.refusal.specs.Refusal.{toldOf}
 use Rattle.decomposition.specs.declared.Decomposed.{Decomposed}
 use Rattle.decomposition.specs.declared.Decomposed.the-variants.{Accepted, Declined}
-use Rattle.decomposition.specs.Decomposition.{Outcome, decompositionOf}
-use Rattle.eigenvalues.specs.Readers.{Read, ComplexRead, realRead, complexRead}
-use Rattle.plain.specs.Plain.{Plain, plainOf}
+use Rattle.decomposition.specs.Decomposition.{decompositionOf}
+use Rattle.eigenvalues.specs.Readers.{realRead, complexRead}
+use Rattle.plain.specs.Plain.{plainOf}
+use Rattle.calls.specs.declared.Entry.{Entry}
+use Rattle.calls.specs.declared.Entry.the-variants.{WithQ, WithoutQ, Real, Complex, Plain, Root}
+use Rattle.calls.specs.declared.Answer.{Answer}
+use Rattle.calls.specs.declared.Answer.the-variants.{Passes, Values, Refused}
 use Rattle.calls.specs.declared.Call.{Call}
 
 pub record Came : Type 0 where
-  pub told : Told
+  pub answer : Answer
   pub x : List Float
   pub y : List Float
   pub z : List Float
 
-abbrev pub came : Told → List Float → List Float → List Float → Came
-came told x y z = record { told = told; x = x; y = y; z = z }
+abbrev pub came : Answer → (x y z : List Float) → Came
+came answer x y z = record { answer = answer; x = x; y = y; z = z }
 
--- no refusal: 0, and the passes where the row stands
-abbrev pub accepted : ℕ → Told
-accepted passes = record { number = 0; row = passes; col = 0 }
+unfoldable pub decomposedAnswer : Decomposed → Answer
+decomposedAnswer (Accepted passes) = Passes passes
+decomposedAnswer (Declined r) = Refused (toldOf r)
 
-unfoldable pub decomposedTold : Decomposed → Told
-decomposedTold (Accepted passes) = accepted passes
-decomposedTold (Declined r) = toldOf r
+unfoldable pub checkedAnswer : Checked → Answer
+checkedAnswer checks.Passed = Values
+checkedAnswer (checks.Refused r) = Refused (toldOf r)
 
-unfoldable pub checkedTold : Checked → Told
-checkedTold Passed = accepted 0
-checkedTold (Refused r) = toldOf r
+unfoldable pub withOrWithoutQ : (wanted : Bool) → Call → (m x y z : List Float) → Came
+withOrWithoutQ wanted c m x y z =
+    let o = decompositionOf (setting (c .order) wanted (c .tolerance)) (c .budget) m (pair x y) z in
+    came (decomposedAnswer (o .answer)) (o .pair .t) (o .pair .q) (o .work)
 
--- ---- what each entry leaves
+-- the root of the first number in the first place
+unfoldable pub rooted : (m x : List Float) → List Float
+rooted [] x = x
+rooted (a ∷ m) x = set x 0 (rootOf a)
 
-abbrev pub decomposedCame : Outcome → Came
-decomposedCame o = came (decomposedTold (o .answer)) (o .pair .t) (o .pair .q) (o .work)
+-- m is the matrix, T or the number whose root is asked for
+unfoldable pub entryOf : Entry → Call → (m x y z : List Float) → Came
+entryOf WithQ c m x y z = withOrWithoutQ true c m x y z
+entryOf WithoutQ c m x y z = withOrWithoutQ false c m x y z
+entryOf Real c m x y z = let r = realRead (c .order) m x in came (checkedAnswer (r .answer)) (r .values) y z
+entryOf Complex c m x y z = let r = complexRead (c .order) m x y in came (checkedAnswer (r .answer)) (r .re) (r .im) z
+entryOf Plain c m x y z = let r = plainOf (c .order) m x y in came (checkedAnswer (r .answer)) (r .values) (r .work) z
+entryOf Root c m x y z = came Values (rooted m x) y z
 
-abbrev pub realCame : Read → List Float → List Float → Came
-realCame r y z = came (checkedTold (r .answer)) (r .values) y z
-
-abbrev pub complexCame : ComplexRead → List Float → Came
-complexCame r z = came (checkedTold (r .answer)) (r .re) (r .im) z
-
-abbrev pub plainCame : Plain → List Float → Came
-plainCame r z = came (checkedTold (r .answer)) (r .values) (r .work) z
-
--- ---- all of them
-
-abbrev pub askedFor : Call → (wanted : Bool) → Setting
-askedFor c wanted = setting (c .order) wanted (c .tolerance)
-
--- m is the matrix or T
-unfoldable pub callOf : Call → (m x y z : List Float) → Came
-callOf c m x y z =
-    cond (eqb (c .entry) 1) (decomposedCame (decompositionOf (askedFor c true) (c .budget) m (pair x y) z))
-    (cond (eqb (c .entry) 2) (decomposedCame (decompositionOf (askedFor c false) (c .budget) m (pair x y) z))
-    (cond (eqb (c .entry) 3) (realCame (realRead (c .order) m x) y z)
-    (cond (eqb (c .entry) 4) (complexCame (complexRead (c .order) m x y) z)
-    (plainCame (plainOf (c .order) m x y) z))))
+abbrev pub callOf : Call → (m x y z : List Float) → Came
+callOf c = entryOf (c .entry) c

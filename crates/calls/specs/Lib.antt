@@ -1,2 +1,2 @@
--- Calls by the number of an entry. `Call`: what is told of a call, and what the lent slices hold afterwards.
+-- Calls by their entry. `Call`: what is answered, and what the lent slices hold afterwards.
 pub mod Call

@@ -1,59 +1,61 @@
-// A case: a call, and what it must come to.
+// A case: a call, and what it must come to. It is the bytes of its record, b, whose words are read where they are needed.
 ghost use mathlib.Core.Path.{_≡_};
 ghost use lib.ListN.{length};
+use crate::answer::as_stored;
 use crate::expected;
 use crate::met;
 use crate::slots::start;
+use crate::unpack::word;
 use calls::Call;
+use calls::Entry;
+
+// The places of a case's words; x, y and z, the answer, and what is left in x, y and z have three each.
+const ENTRY: usize = 0;
+
+const SLOT: usize = 1;
+
+const COUNT: usize = 2;
+
+const ORDER: usize = 3;
+
+const TOLERANCE: usize = 4;
+
+const BUDGET: usize = 5;
+
+const LENGTHS: usize = 6;
+
+pub(crate) const ANSWER: usize = 9;
+
+pub(crate) const LEFT: usize = 12;
 
 // What lent memory holds before a call. No answer has it: the oracle sees to that.
 pub(crate) const LENT: u64 = 0x0123_4567_89ab_cdef;
 
-pub(crate) struct Case {
-    pub(crate) entry: u64,
-    // what it is given: so many numbers of this slot
-    pub(crate) slot: usize,
-    pub(crate) count: usize,
-    pub(crate) order: usize,
-    pub(crate) tolerance: f64,
-    pub(crate) budget: u64,
-    // the lengths of what is lent
-    pub(crate) x: usize,
-    pub(crate) y: usize,
-    pub(crate) z: usize,
-    // the answer that is expected
-    pub(crate) number: u64,
-    pub(crate) row: u64,
-    pub(crate) col: u64,
-    // what is expected to be left
-    pub(crate) left_x: usize,
-    pub(crate) left_y: usize,
-    pub(crate) left_z: usize,
+// 1 to 6.
+fn entry_of(number: u64) -> Entry {
+    match number {
+        1 => Entry::WithQ,
+        2 => Entry::WithoutQ,
+        3 => Entry::Real,
+        4 => Entry::Complex,
+        5 => Entry::Plain,
+        _ => Entry::Root,
+    }
 }
 
-pub(crate) fn case_of(w: &[u64; 15]) -> Case {
-    Case {
-        entry: w[0],
-        slot: w[1] as usize,
-        count: w[2] as usize,
-        order: w[3] as usize,
-        tolerance: scalar::of_bits(w[4]),
-        budget: w[5],
-        x: w[6] as usize,
-        y: w[7] as usize,
-        z: w[8] as usize,
-        number: w[9],
-        row: w[10],
-        col: w[11],
-        left_x: w[12] as usize,
-        left_y: w[13] as usize,
-        left_z: w[14] as usize,
+fn call_of(b: &[u8]) -> Call {
+    let entry = entry_of(word(b, ENTRY));
+    Call {
+        entry,
+        order: word(b, ORDER) as usize,
+        tolerance: scalar::of_bits(word(b, TOLERANCE)),
+        budget: word(b, BUDGET),
     }
 }
 
 // Makes the call: it is given m, and lent x, y and z.
 fn make(
-    c: Case,
+    b: &[u8],
     m: &[f64],
     x: &mut [f64],
     y: &mut [f64],
@@ -61,20 +63,14 @@ fn make(
     slots: &[f64],
     counts: &mut [u64],
 ) -> bool {
-    let call = Call {
-        entry: c.entry,
-        order: c.order,
-        tolerance: c.tolerance,
-        budget: c.budget,
-    };
-    let t = calls::run(call, m, x, y, z);
-    met::count(counts, c.entry, t.number);
-    expected::same(c, t, x, y, z, slots)
+    let came = as_stored(calls::run(call_of(b), m, x, y, z));
+    met::count(counts, word(b, ENTRY), came.first);
+    expected::same(b, came, x, y, z, slots)
 }
 
 // The same, where x, y and z are rooms to lend from: false where they are too small.
 fn lend(
-    c: Case,
+    b: &[u8],
     m: &[f64],
     x: &mut [f64],
     y: &mut [f64],
@@ -82,14 +78,14 @@ fn lend(
     slots: &[f64],
     counts: &mut [u64],
 ) -> bool {
-    let first = c.x;
-    let second = c.y;
-    let third = c.z;
+    let first = word(b, LENGTHS) as usize;
+    let second = word(b, LENGTHS + 1) as usize;
+    let third = word(b, LENGTHS + 2) as usize;
     if x.len() < first || y.len() < second || z.len() < third {
         return false;
     }
     make(
-        c,
+        b,
         m,
         &mut x[0..first],
         &mut y[0..second],
@@ -107,17 +103,21 @@ fn room() -> [f64; 4225]
 }
 
 // The same, on rooms full of what lent memory holds.
-fn given(c: Case, m: &[f64], slots: &[f64], counts: &mut [u64]) -> bool {
+fn given(b: &[u8], m: &[f64], slots: &[f64], counts: &mut [u64]) -> bool {
     let mut x = room();
     let mut y = room();
     let mut z = room();
-    lend(c, m, &mut x, &mut y, &mut z, slots, counts)
+    lend(b, m, &mut x, &mut y, &mut z, slots, counts)
 }
 
 // Whether a case goes as expected.
-pub(crate) fn run(c: Case, slots: &[f64], counts: &mut [u64]) -> bool {
-    let k = c.slot;
-    let count = c.count;
+pub(crate) fn run(b: &[u8], slots: &[f64], counts: &mut [u64]) -> bool {
+    let entry = word(b, ENTRY);
+    let k = word(b, SLOT) as usize;
+    let count = word(b, COUNT) as usize;
+    if entry == 0 || 6 < entry {
+        return false;
+    }
     if 5 <= k {
         return false;
     }
@@ -129,5 +129,5 @@ pub(crate) fn run(c: Case, slots: &[f64], counts: &mut [u64]) -> bool {
     if slots.len() < to {
         return false;
     }
-    given(c, &slots[from..to], slots, counts)
+    given(b, &slots[from..to], slots, counts)
 }

@@ -1,24 +1,22 @@
 // What is expected of a case, against what came. What differs is said.
-use crate::case::Case;
+use crate::answer::Stored;
+use crate::case::ANSWER;
+use crate::case::LEFT;
 use crate::case::LENT;
+use crate::say;
 use crate::say::whole;
 use crate::say::word;
 use crate::slots::start;
-use refusal::Told;
+use crate::unpack;
 
-fn told(c: Case, t: Told) -> bool {
-    let row = t.row as u64;
-    let col = t.col as u64;
-    if c.number == t.number && c.row == row && c.col == col {
+fn answer(b: &[u8], came: Stored) -> bool {
+    let first = unpack::word(b, ANSWER);
+    let second = unpack::word(b, ANSWER + 1);
+    let third = unpack::word(b, ANSWER + 2);
+    if came.first == first && came.second == second && came.third == third {
         return true;
     }
-    word(b"answer ");
-    whole(t.number);
-    word(b" ");
-    whole(row);
-    word(b" ");
-    whole(col);
-    word(b", ");
+    say::answer(came);
     false
 }
 
@@ -78,10 +76,10 @@ fn slice(number: u64, v: &[f64], left: usize, slots: &[f64]) -> bool {
 }
 
 // Whether all is as expected.
-pub(crate) fn same(c: Case, t: Told, x: &[f64], y: &[f64], z: &[f64], slots: &[f64]) -> bool {
-    let answer = told(c, t);
-    let first = slice(1, x, c.left_x, slots);
-    let second = slice(2, y, c.left_y, slots);
-    let third = slice(3, z, c.left_z, slots);
-    answer && first && second && third
+pub(crate) fn same(b: &[u8], came: Stored, x: &[f64], y: &[f64], z: &[f64], slots: &[f64]) -> bool {
+    let answered = answer(b, came);
+    let first = slice(1, x, unpack::word(b, LEFT) as usize, slots);
+    let second = slice(2, y, unpack::word(b, LEFT + 1) as usize, slots);
+    let third = slice(3, z, unpack::word(b, LEFT + 2) as usize, slots);
+    answered && first && second && third
 }

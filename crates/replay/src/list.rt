@@ -5,7 +5,6 @@ use crate::met::more;
 use crate::say;
 use crate::say::word;
 use crate::slots;
-use crate::unpack;
 use crate::unpack::wide;
 use libc::STDIN_FILENO;
 
@@ -104,10 +103,7 @@ fn mean(h: Head, b: &[u8], slots: &mut [f64], counts: &mut [u64], s: Sums) -> Su
             }
             not_understood(s)
         }
-        b'c' => {
-            let w = unpack::case_words(b);
-            went(s, case::run(case::case_of(&w), slots, counts))
-        }
+        b'c' => went(s, case::run(b, slots, counts)),
         _ => not_understood(s),
     }
 }
@@ -142,22 +138,10 @@ fn records(room: &mut [u8], slots: &mut [f64], counts: &mut [u64]) -> Sums {
     s
 }
 
-// What each entry answered, a line each.
-fn lines(counts: &[u64]) {
-    if counts.len() < 96 {
-        return;
-    }
-    met::line(b"decomposition with Q: ", &counts[16..32]);
-    met::line(b"decomposition without Q: ", &counts[32..48]);
-    met::line(b"real reader: ", &counts[48..64]);
-    met::line(b"complex reader: ", &counts[64..80]);
-    met::line(b"plain entry: ", &counts[80..96]);
-}
-
 fn replay(room: &mut [u8], slots: &mut [f64], counts: &mut [u64]) {
     let s = records(room, slots, counts);
     close(s);
-    lines(counts);
+    met::lines(counts);
     say::sum(s.cases, s.differ);
 }
 

@@ -16,29 +16,50 @@ pub(crate) fn count(counts: &mut [u64], entry: u64, number: u64) {
     }
 }
 
-fn refused(counts: &[u64], k: usize, number: u64) {
-    if counts.len() <= k {
-        return;
+// How often an entry gave a number.
+fn met(counts: &[u64], entry: usize, number: usize) -> u64 {
+    let k = entry % 8 * 16 + number % 16;
+    if k < counts.len() {
+        return counts[k];
     }
-    if counts[k] == 0 {
+    0
+}
+
+fn refused(counts: &[u64], entry: usize, number: usize) {
+    let times = met(counts, entry, number);
+    if times == 0 {
         return;
     }
     word(b", ");
-    whole(counts[k]);
+    whole(times);
     word(b" refused ");
-    whole(number);
+    whole(number as u64);
 }
 
-// The line of an entry.
-pub(crate) fn line(name: &[u8], counts: &[u64]) {
-    if counts.len() == 0 {
-        return;
+fn name(entry: usize) {
+    match entry {
+        1 => word(b"decomposition with Q: "),
+        2 => word(b"decomposition without Q: "),
+        3 => word(b"real reader: "),
+        4 => word(b"complex reader: "),
+        5 => word(b"plain entry: "),
+        _ => word(b"root: "),
     }
-    word(name);
-    whole(counts[0]);
+}
+
+fn line(counts: &[u64], entry: usize) {
+    name(entry);
+    whole(met(counts, entry, 0));
     word(b" accepted");
-    for k in 1..16 {
-        refused(counts, k, k as u64);
+    for number in 1..16 {
+        refused(counts, entry, number);
     }
     word(b"\n");
+}
+
+// What each entry answered, a line each.
+pub(crate) fn lines(counts: &[u64]) {
+    for entry in 1..7 {
+        line(counts, entry);
+    }
 }

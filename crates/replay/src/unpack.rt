@@ -32,12 +32,3 @@ pub(crate) fn word(b: &[u8], k: usize) -> u64 {
     }
     w
 }
-
-// The words of a case.
-pub(crate) fn case_words(b: &[u8]) -> [u64; 15] {
-    let mut w = [0; 15];
-    for k in 0..15 {
-        w[k] = word(b, k);
-    }
-    w
-}

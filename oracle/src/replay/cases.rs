@@ -1,7 +1,8 @@
-//! Which cases the list has. They are drawn from a fixed seed, so the list is always the same.
+//! Which cases the list has. They are drawn from a fixed seed or written out, so the list is always the same.
 
 use super::covered::Covered;
 use super::list::{List, Slot};
+use super::written::{self, Line};
 use crate::call::{Call, Entry};
 use crate::compare::{kept_witnesses, one_in, shapes, Bases, Case, Plan, FAMILIES, TOLERANCES};
 use crate::judge::{Answer, Judge};
@@ -57,6 +58,7 @@ pub fn all() -> Made {
     made.faults();
     made.edges();
     made.long();
+    made.written();
     made
 }
 
@@ -129,6 +131,7 @@ impl Made {
             self.covered.count(&answers, wanted);
         }
         if let Some(t) = self.judge.t(*order, entries, *tolerance, *budget) {
+            let t: Vec<f64> = t.into_iter().map(with_x86_nan).collect();
             self.read(*order, &t, Slot::T);
         }
         for (at, count) in TOLERANCES.iter().zip(&mut self.covered.tolerances) {
@@ -267,6 +270,29 @@ impl Made {
             let cycle: Vec<f64> = (0..order * order).map(entry).collect();
             self.plain(order, &cycle);
         }
+    }
+
+    /// The calls of `calls.txt`, in groups of their own.
+    fn written(&mut self) {
+        for line in written::lines() {
+            match line {
+                Line::Group(name) => self.list.group(&name),
+                Line::Root(number) => self.list.root(number),
+                Line::Call(call, work) => {
+                    self.list.case(&mut self.judge, &call, Slot::Matrix, work);
+                }
+            }
+        }
+    }
+}
+
+/// x with the NaN of x86-64 for any NaN: the crate's are the machine's, and the list is the same on all. Not
+/// inlined, for the reason of `one_nan`.
+#[inline(never)]
+fn with_x86_nan(x: f64) -> f64 {
+    match x.is_nan() {
+        true => f64::from_bits(0xfff8_0000_0000_0000),
+        false => x,
     }
 }
 

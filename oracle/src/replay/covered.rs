@@ -1,12 +1,12 @@
 //! What the list covers: how often, and what of that it lacks.
 
-use super::list::{List, NAMES};
+use super::list::{List, NAMES, ROOT};
 use crate::call::Entry;
 use crate::compare::{possible, FAMILIES, TOLERANCES};
 use crate::judge::Answer;
 
-/// The entries as the program counts them: the decomposition with Q, then without.
-const ENTRIES: [Entry; NAMES.len()] = [
+/// The entries that may refuse, as the program counts them: the decomposition with Q, then without.
+const ENTRIES: [Entry; ROOT] = [
     Entry::Decompose,
     Entry::Decompose,
     Entry::Real,
@@ -64,10 +64,10 @@ impl Covered {
     /// What the list is to have and has not.
     pub fn missing(&self, list: &List) -> Vec<String> {
         let mut missing = Vec::new();
-        for (entry, name) in NAMES.iter().enumerate() {
-            let numbers = possible(ENTRIES[entry]).iter();
-            let never = numbers.filter(|number| list.met(entry, **number) == 0);
-            missing.extend(never.map(|number| format!("{number} of the {name}")));
+        for (place, entry) in ENTRIES.into_iter().enumerate() {
+            let numbers = possible(entry).iter();
+            let never = numbers.filter(|number| list.met(place, **number) == 0);
+            missing.extend(never.map(|number| format!("{number} of the {}", NAMES[place])));
         }
         for (number, least) in PLACES {
             if list.places(number) < least {
@@ -85,6 +85,7 @@ impl Covered {
         none("a wrong length of slice", &self.lengths);
         none("long runs", &self.long);
         none("witnesses", &[self.witnesses]);
+        none("roots", &[list.met(ROOT, 0)]);
         missing
     }
 }

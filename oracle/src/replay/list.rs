@@ -23,13 +23,17 @@ pub enum Slot {
 }
 
 /// The entries; the program counts them from 1 on.
-pub const NAMES: [&str; 5] = [
+pub const NAMES: [&str; 6] = [
     "decomposition with Q",
     "decomposition without Q",
     "real reader",
     "complex reader",
     "plain entry",
+    "root",
 ];
+
+/// The place of the last of them.
+pub const ROOT: usize = NAMES.len() - 1;
 
 /// The number of an answer is below this.
 const NUMBERS: usize = 12;
@@ -70,7 +74,11 @@ impl List {
         let eight = |bytes: &[u8]| u64::from_le_bytes(bytes.try_into().expect("eight bytes"));
         self.put(slot, input.map(eight).collect());
         let (answer, after) = judge.rule_library(call, work);
-        let left = self.left(call.entry, after);
+        let slots = match call.entry {
+            Entry::Decompose => [Slot::T, Slot::Q],
+            Entry::Real | Entry::Complex | Entry::Plain => [Slot::First, Slot::Second],
+        };
+        let left = self.left(slots, after);
         let entry = match (call.entry, call.wanted) {
             (Entry::Decompose, 0) => 1,
             (Entry::Decompose, _) => 0,
@@ -83,24 +91,48 @@ impl List {
             Entry::Plain => [x, work, 0],
             Entry::Decompose | Entry::Real | Entry::Complex => [x, y, work],
         };
-        let told = match answer {
+        let asked = [call.order as u64, call.tolerance, call.budget];
+        let given = [slot as u64, (call.input.len() / 8) as u64];
+        self.record(entry, given, asked, lengths, answer, left);
+        answer
+    }
+
+    /// A case of the root, which is the processor's.
+    pub fn root(&mut self, number: f64) {
+        self.put(Slot::Matrix, vec![number.to_bits()]);
+        let after = [
+            After::Numbers(vec![number.sqrt()]),
+            After::Untouched,
+            After::Untouched,
+        ];
+        let left = self.left([Slot::First, Slot::Second], after);
+        let given = [Slot::Matrix as u64, 1];
+        self.record(ROOT, given, [0; 3], [1, 0, 0], Answer::Accepted(0), left);
+    }
+
+    /// The record of a case: the place of its entry's name; the slot and how many numbers of it are given;
+    /// order, tolerance and budget; the lengths of what is lent; the answer; what is left.
+    fn record(
+        &mut self,
+        entry: usize,
+        given: [u64; 2],
+        asked: [u64; 3],
+        lengths: [usize; 3],
+        answer: Answer,
+        left: [u64; 3],
+    ) {
+        let stored = match answer {
             Answer::Accepted(passes) => [0, passes, 0],
             Answer::Refused(Refusal { number, row, col }) => {
                 [u64::from(number), row as u64, col as u64]
             }
         };
-        let asked = [
-            entry as u64 + 1,
-            slot as u64,
-            (call.input.len() / 8) as u64,
-            call.order as u64,
-            call.tolerance,
-            call.budget,
-        ];
         let words = [
-            &asked[..],
+            &[entry as u64 + 1][..],
+            &given,
+            &asked,
             &lengths.map(|length| length as u64),
-            &told,
+            &stored,
             &left,
         ]
         .concat();
@@ -111,15 +143,11 @@ impl List {
             self.places[usize::from(number)].insert((row, col));
         }
         self.groups.last_mut().expect("a group was begun").1 += 1;
-        answer
     }
 
-    /// What is left in the three slices: 0 all as it was, 1 NaN, 2 +0, and from 3 on what a slot holds.
-    fn left(&mut self, entry: Entry, after: [After; 3]) -> [u64; 3] {
-        let slots = match entry {
-            Entry::Decompose => [Slot::T, Slot::Q],
-            Entry::Real | Entry::Complex | Entry::Plain => [Slot::First, Slot::Second],
-        };
+    /// What is left in the three slices: 0 all as it was, 1 NaN, 2 +0, and from 3 on what a slot holds, of
+    /// these in turn.
+    fn left(&mut self, slots: [Slot; 2], after: [After; 3]) -> [u64; 3] {
         let mut slots = slots.into_iter();
         after.map(|after| match (after, slots.next()) {
             (After::Untouched, _) => 0,
@@ -227,7 +255,22 @@ mod tests {
         assert!(list.page().starts_with("J: 2 cases, 0 differ\n"));
         assert!(list
             .page()
-            .ends_with("plain entry: 0 accepted\n2 cases, 0 differ\n"));
+            .ends_with("root: 0 accepted\n2 cases, 0 differ\n"));
+    }
+
+    #[test]
+    fn a_root_is_written() {
+        let mut list = List::default();
+        list.group("4");
+        list.root(4.0);
+        let [.., head, number, first, root] = words(&list)[..words(&list).len() - 16] else {
+            panic!("the two numbers");
+        };
+        assert_eq!((head & 0xff, first & 0xffff), (u64::from(b'n'), 0x036e));
+        assert_eq!((number, root), (4f64.to_bits(), 2f64.to_bits()));
+        let case = [6, 0, 1, 0, 0, 0, 1, 0, 0, 0, 0, 0, 6, 0, 0];
+        assert_eq!(words(&list)[words(&list).len() - 15..], case);
+        assert!(list.page().contains("root: 1 accepted\n"));
     }
 
     #[test]
