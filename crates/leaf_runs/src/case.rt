@@ -1,5 +1,4 @@
 // What a call is run on, and what it answers.
-use crate::blocks;
 use crate::draw::drawn;
 use crate::draw::numbers_of;
 use crate::reductions;
@@ -27,7 +26,7 @@ pub(crate) struct Case {
     // seed of the matrix or slice; seed of what has the length k, or of the rotation
     pub(crate) seed: usize,
     pub(crate) other: usize,
-    // length and seed of the products, or of the signs
+    // number and seed of the signs
     pub(crate) m: usize,
     pub(crate) third: usize,
 }
@@ -52,7 +51,7 @@ pub(crate) fn case_of(w: &[usize; 10]) -> Case {
 // A group is a line of the list of names in `main`, counted from 0.
 //
 // The numbers that a call does not have in its line: the seeds of what is written to, of the signs, of the matrix of an
-// entry; what a reduction needs; and all those of the product with too few places.
+// entry; what a reduction needs.
 fn fixed(group: usize, c: Case) -> Case {
     let mut d = c;
     match group {
@@ -65,16 +64,10 @@ fn fixed(group: usize, c: Case) -> Case {
             d.other = 48;
             d.third = 13;
         }
-        // mul_to
-        7 => {
-            d.m = 9;
-            d.third = 40;
-        }
-        8 => d = blocks::too_few(),
-        9 => d = reductions::sized(c, c.n),
-        10 => d = reductions::sized(c, reductions::columns(c)),
+        7 => d = reductions::sized(c, c.n),
+        8 => d = reductions::sized(c, reductions::columns(c)),
         // entry
-        13 => d.seed = 15,
+        11 => d.seed = 15,
         _ => {}
     }
     d
@@ -99,11 +92,11 @@ fn changed(group: usize, k: usize, c: Case, t: &mut [f64], a: &[f64]) {
 // `block_fits` has its number of entries at `other`: it is given no matrix.
 fn by_reading(group: usize, k: usize, c: Case, t: &[f64], a: &[f64]) {
     match group {
-        12 => number(slices::sum(k, t)),
-        13 => number(matrix::entry(t, c.n, c.row, c.c0)),
-        14 => flag(matrix::block_fits(c.n, c.other, c.row, c.rows, c.c0, c.c1)),
-        15 => number(vectors::sum(k, c.seed)),
-        16 => vectors::change(k, c.seed),
+        10 => number(slices::sum(k, t)),
+        11 => number(matrix::entry(t, c.n, c.row, c.c0)),
+        12 => flag(matrix::block_fits(c.n, c.other, c.row, c.rows, c.c0, c.c1)),
+        13 => number(vectors::sum(k, c.seed)),
+        14 => vectors::change(k, c.seed),
         _ => rotations::of_seed(k, c.seed),
     }
 }
@@ -113,9 +106,8 @@ fn tell(group: usize, k: usize, c: Case, t: &mut [f64], a: &mut [f64], w: &mut [
         0..=4 => changed(group, k, c, t, a),
         5 => reductions::clear(k, c, t, a),
         6 => reductions::assemble(t, c.n, w, a),
-        7..=8 => blocks::multiply(c, t, a, w),
-        9..=10 => reductions::reduce(group, k, c, t, a, w),
-        11 => slices::two(k, t, a),
+        7..=8 => reductions::reduce(group, k, c, t, a, w),
+        9 => slices::two(k, t, a),
         _ => by_reading(group, k, c, t, a),
     }
 }

@@ -5,7 +5,6 @@
 // The file stdout is made from the same calls by the functions of oracle/src/model.rs, and by plain Rust after
 // docs/SUMS.md where that has none, never by this program: `oracle/run leaves` makes it again and compares,
 // `oracle/run leaves --write` stores it.
-mod blocks;
 mod case;
 mod draw;
 mod read;
@@ -33,8 +32,6 @@ fn main() {
 012345678 |reflect_rows|reflect_rows3|reflect_rows2|reflect_rows_with_sign|reflect_rows3_with_sign|reflect_rows2_with_sign
 01257 |clear_column|clear_column, matrix
 01297 |assemble_q
-0124578 |mul_to
- |mul_to, two places for three rows
 07 |reduce, matrix|reduce, Q
 075 |reduce, column
 1278 |dot|copy_from

@@ -58,7 +58,7 @@ fn clear_all(t: &mut [f64], n: usize, w: &mut [f64], signs: &mut [f64]) -> f64 {
     norm
 }
 
-// The last norm for `reduce, column`, which is group 10; else the matrix or Q.
+// The last norm for `reduce, column`, which is group 8; else the matrix or Q.
 pub(crate) fn reduce(
     group: usize,
     k: usize,
@@ -69,7 +69,7 @@ pub(crate) fn reduce(
 ) {
     let mut w = numbers_of(40);
     let norm = clear_all(t, c.n, &mut w, signs);
-    if group == 10 {
+    if group == 8 {
         number(norm);
     } else if k == 1 {
         numbers(t);
