@@ -58,8 +58,8 @@ const PATTERNS: [u64; 44] = [
 ];
 
 // Seeds 0, 8, 16, .. draw ordinary numbers; 1, 9, .. zeros; 2, 10, .. what has vanishing squares; 3, 11, .. all
-// small ones; 4, 12, .. large ones; 5, 13, .. ordinary ones and zeros; 6, 14, .. all finite ones; 7, 15, .. infinities, NaN and the
-// first eight ordinary ones.
+// small ones; 4, 12, .. large ones; 5, 13, .. ordinary ones and zeros; 6, 14, .. all finite ones; 7, 15, .. infinities,
+// NaN and the first eight ordinary ones.
 pub(crate) fn drawn(seed: usize, place: usize) -> f64 {
     let k = seed % 64 * 5 + place % 128 * 9;
     scalar::of_bits(PATTERNS[pattern(seed % 8, k) % 44])
