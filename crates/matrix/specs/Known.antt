@@ -128,10 +128,15 @@ three =
     0x3fb9_9999_9999_999a ∷ 0x3fc9_9999_9999_999a ∷ 0x3fd3_3333_3333_3333 ∷ 0x8000_0000_0000_0000 ∷ 0x4008_0000_0000_0000
     ∷ 0x3fe6_6666_6666_6666 ∷ 0 ∷ 0x3fb9_9999_9999_999a ∷ 0x3fec_cccc_cccc_cccd ∷ []
 
--- The first two rows of the last two columns times 0.1 -3: -0 and -0 give -0, with a leading zero they would not; 3 * 0.1 and 0.1 * -3 give 0, fused they would not.
--- The three rows times 0.3 0.1 0.7: the last has other bits from the right.
-along-rows : map shown (map (along (read (0x3fb9_9999_9999_999a ∷ 0xc008_0000_0000_0000 ∷ [])) 3 1 (read three)) (0 ∷ 1 ∷ [])
-    ∷ map (along (read (0x3fd3_3333_3333_3333 ∷ 0x3fb9_9999_9999_999a ∷ 0x3fe6_6666_6666_6666 ∷ [])) 3 0 (read three)) (0 ∷ 1 ∷ 2 ∷ []) ∷ [])
-    ≡ (0x8000_0000_0000_0000 ∷ 0 ∷ []) ∷ (0x3f9e_b851_eb85_1eb8 ∷ 0x3fdb_851e_b851_eb86 ∷ 0x3fe9_47ae_147a_e148 ∷ []) ∷ []
+-- The first two rows of the last two columns times 0.1 -3: -0 and -0 give -0, with a leading zero they would not;
+-- 3 * 0.1 and 0.1 * -3 give 0, fused they would not. The three rows times 0.3 0.1 0.7: the last has other bits from the
+-- right.
+along-rows : map shown (
+    map (along (read (0x3fb9_9999_9999_999a ∷ 0xc008_0000_0000_0000 ∷ [])) 3 1 (read three)) (0 ∷ 1 ∷ [])
+    ∷ map (along (read (0x3fd3_3333_3333_3333 ∷ 0x3fb9_9999_9999_999a ∷ 0x3fe6_6666_6666_6666 ∷ [])) 3 0 (read three))
+    (0 ∷ 1 ∷ 2 ∷ [])
+    ∷ [])
+    ≡ (0x8000_0000_0000_0000 ∷ 0 ∷ [])
+    ∷ (0x3f9e_b851_eb85_1eb8 ∷ 0x3fdb_851e_b851_eb86 ∷ 0x3fe9_47ae_147a_e148 ∷ []) ∷ []
 unfolding opened three
 along-rows = refl
