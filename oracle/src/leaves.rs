@@ -106,7 +106,6 @@ mod tests {
             "clear_column 2 4 82 0 0",
             "reduce, matrix 10 0",
             "reduce, column 2 0 2",
-            "mul_to, two places for three rows 1",
         ] {
             assert_eq!(answer(line), None, "{line}");
         }

@@ -2,13 +2,12 @@
 use mathlib.Core.Path.{_≡_, refl, sym, ap, _∙_}
 use mathlib.Core.List.{List}
 use Prim.Native.Nat.{ℕ, _+_, _<_, _≤_}
-use native.Mathlib.Decide.{decLt}
 use native.Mathlib.Omega.{arith}
 use lib.ListN.{length, set, length-set}
 use lib.Seq.{getD-set-same, getD-set-other, ext-getD}
 use lib.Ieee.{Float, nan}
 use Rattle.loops.specs.Rounded.{_!_}
-use Rattle.loops.specs.Times.{times-none, times-more, times-done, times-same, times-length, times-frame, times-at}
+use Rattle.loops.specs.Times.{times-none, times-more, times-done, times-length, times-frame, times-at}
 use Rattle.matrix.specs.Vectors.{eachTo, filled}
 
 -- ---- a loop that rewrites them one by one: before the first turn, one more, all done
@@ -64,26 +63,6 @@ rewriting-more {k} {g} {t₀} {i} {t} d h = record {
 
 pub rewriting-done : {k : ℕ} {g : ℕ → Float → Float} {t₀ : List Float} {i : ℕ} {t : List Float} → Rewriting k g t₀ i t → k ≤ i → t ≡ eachTo k g t₀
 rewriting-done {k} {g} {t₀} {i} d h = d .done ∙ eachTo-done i k g t₀ (d .upto) h
-
--- ---- two of them
-
--- what is put where the two are told the same is the same
-pub eachTo-same : (k : ℕ) (g h : ℕ → Float → Float) (t : List Float) → ((i : ℕ) (x : Float) → i < k → g i x ≡ h i x) → eachTo k g t ≡ eachTo k h t
-unfolding eachTo
-eachTo-same k g h t e = times-same _ _ k t (λ i s l. ap (set s i) (e i (s ! i) l))
-
--- one after the other
-pub eachTo-twice : (k : ℕ) (g h : ℕ → Float → Float) (t : List Float) → k ≤ length t → eachTo k h (eachTo k g t) ≡ eachTo k (λ i x. h i (g i x)) t
-eachTo-twice k g h t l =
-    ext-getD nan _ _ (eachTo-length k h _ ∙ eachTo-length k g t ∙ sym (eachTo-length k _ t)) (λ i m. go i (decLt i k))
-  where
-    go : (i : ℕ) → Dec (i < k) → eachTo k h (eachTo k g t) ! i ≡ eachTo k (λ i x. h i (g i x)) t ! i
-    go i (yes m) =
-        eachTo-at k h _ i m (omega (arith, eachTo-length k g t))
-        ∙ ap (h i) (eachTo-at k g t i m l)
-        ∙ sym (eachTo-at k _ t i m l)
-    go i (no m) =
-        eachTo-past k h _ i (omega arith) ∙ eachTo-past k g t i (omega arith) ∙ sym (eachTo-past k _ t i (omega arith))
 
 -- ---- one number throughout
 

@@ -17,7 +17,7 @@ use Rattle.matrix.specs.Vectors.{products, dotOf, normSquared, normOf, e
 use Rattle.matrix.specs.Vectors.{normalized, largest}
 use Rattle.matrix.specs.Fits.{blockFits}
 use Rattle.matrix.specs.Entries.{inBlock, onEntries, entryOf, putOf}
-use Rattle.matrix.specs.Product.{along, mulTo}
+use Rattle.matrix.specs.Product.{along}
 
 -- from patterns to numbers, and back
 unfoldable pub numbers : List ℕ → List Float
@@ -30,7 +30,7 @@ shown = map (toBits binary64)
 unfoldable pub opened : Unit {0}
 unfolding numbers shown times range bare lane lanesSummed lanes dotOf normSquared normOf eachTo filled scaled
     unscaled normalized largest blockFits inBlock onEntries entryOf putOf
-    along mulTo modulusOf floorRoot wholeRoot scaleOf scaledWhole unitsRoot rootOf add mul div le ofBits toBits
+    along modulusOf floorRoot wholeRoot scaleOf scaledWhole unitsRoot rootOf add mul div le ofBits toBits
 opened = tt
 
 -- ---- sums
@@ -161,23 +161,15 @@ three =
     ∷ 0x4008_0000_0000_0000
     ∷ 0x3fe6_6666_6666_6666 ∷ 0 ∷ 0x3fb9_9999_9999_999a ∷ 0x3fec_cccc_cccc_cccd ∷ []
 
--- NaN 7 NaN 8
-work : List ℕ
-work = 0x7ff8_0000_0000_0000 ∷ 0x401c_0000_0000_0000 ∷ 0x7ff8_0000_0000_0000 ∷ 0x4020_0000_0000_0000 ∷ []
-
--- Two rows of the last two columns times 0.1 -3: -0 and -0 give -0, with a leading zero they would not; 3 * 0.1 and 0.1
--- * -3 give 0, fused they would not. All rows times 0.3 0.1 0.7: the last has other bits from the right. Then a column
--- too many, a row too many, and a workspace too short.
-along-rows : map shown (mulTo (numbers (0x3fb9_9999_9999_999a ∷ 0xc008_0000_0000_0000 ∷ [])) 3 2 1 (numbers three)
-    (numbers work)
-    ∷ mulTo (numbers (0x3fd3_3333_3333_3333 ∷ 0x3fb9_9999_9999_999a ∷ 0x3fe6_6666_6666_6666 ∷ [])) 3 3 0
-    (numbers three) (numbers work)
-    ∷ mulTo (numbers (0x3fb9_9999_9999_999a ∷ 0xc008_0000_0000_0000 ∷ [])) 3 2 2 (numbers three) (numbers work)
-    ∷ mulTo (numbers (0x3fb9_9999_9999_999a ∷ 0xc008_0000_0000_0000 ∷ [])) 3 4 1 (numbers three) (numbers work)
-    ∷ mulTo (numbers (0x3fb9_9999_9999_999a ∷ 0xc008_0000_0000_0000 ∷ [])) 3 3 1 (numbers three)
-    (numbers (0 ∷ 0x3ff0_0000_0000_0000 ∷ [])) ∷ [])
-    ≡ (0x8000_0000_0000_0000 ∷ 0 ∷ 0x7ff8_0000_0000_0000 ∷ 0x4020_0000_0000_0000 ∷ [])
-    ∷ (0x3f9e_b851_eb85_1eb8 ∷ 0x3fdb_851e_b851_eb86 ∷ 0x3fe9_47ae_147a_e148 ∷ 0x4020_0000_0000_0000 ∷ []) ∷ work ∷ work
-    ∷ (0 ∷ 0x3ff0_0000_0000_0000 ∷ []) ∷ []
-unfolding opened three work
+-- The first two rows of the last two columns times 0.1 -3: -0 and -0 give -0, with a leading zero they would not;
+-- 3 * 0.1 and 0.1 * -3 give 0, fused they would not. The three rows times 0.3 0.1 0.7: the last has other bits from the
+-- right.
+along-rows : map shown (
+    map (along (numbers (0x3fb9_9999_9999_999a ∷ 0xc008_0000_0000_0000 ∷ [])) 3 1 (numbers three)) (0 ∷ 1 ∷ [])
+    ∷ map (along (numbers (0x3fd3_3333_3333_3333 ∷ 0x3fb9_9999_9999_999a ∷ 0x3fe6_6666_6666_6666 ∷ [])) 3 0 (numbers three))
+    (0 ∷ 1 ∷ 2 ∷ [])
+    ∷ [])
+    ≡ (0x8000_0000_0000_0000 ∷ 0 ∷ [])
+    ∷ (0x3f9e_b851_eb85_1eb8 ∷ 0x3fdb_851e_b851_eb86 ∷ 0x3fe9_47ae_147a_e148 ∷ []) ∷ []
+unfolding opened three
 along-rows = refl

@@ -4,7 +4,6 @@ mod block;
 mod edition;
 mod min_max;
 mod norms;
-mod product;
 mod scale;
 mod vector;
 
@@ -18,7 +17,6 @@ pub use min_max::camax;
 pub use norms::norm;
 pub use norms::norm_squared;
 pub use norms::normalize_mut;
-pub use product::mul_to;
 pub use scale::scale_mut;
 pub use scale::unscale_mut;
 pub use vector::Vector2;

@@ -1,4 +1,4 @@
-//! Whether a block lies in a matrix; entries read and put; matrix times vector.
+//! Whether a block lies in a matrix; entries read and put.
 
 use super::draw::{drawn, many};
 use super::plain;
@@ -21,16 +21,6 @@ pub fn answer(name: &str, wholes: &[usize]) -> Option<String> {
                 t[j * n + i] = drawn(4, 1);
             }
             Some(numbers(&t))
-        }
-        ("mul_to", &[n, len, k, rows, c0, seed, other]) => {
-            let mut w = many(9, 40)?;
-            plain::mul_to(&many(k, other)?, &many(len, seed)?, n, rows, c0, &mut w);
-            Some(numbers(&w))
-        }
-        ("mul_to, two places for three rows", []) => {
-            let mut w = many(2, 40)?;
-            plain::mul_to(&many(2, 8)?, &many(9, 0)?, 3, 3, 0, &mut w);
-            Some(numbers(&w))
         }
         _ => None,
     }

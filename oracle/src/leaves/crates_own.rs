@@ -13,13 +13,12 @@ use nalgebra::{Const, DMatrix, DVector, Dyn, Reflection, SVector, Unit, Vector2}
 /// What the plain function gives, and what the crate's.
 type Both = (Vec<f64>, Vec<f64>);
 
-const CHECKS: [(&str, fn(&mut Random) -> Both); 14] = [
+const CHECKS: [(&str, fn(&mut Random) -> Both); 13] = [
     ("dot, norms, normalize of two", small_sums::<2>),
     ("dot, norms, normalize of three", small_sums::<3>),
     ("dot, norms, normalize of a run-time length", sums),
     ("camax", camax),
     ("scale_mut, unscale_mut, fill", scalings),
-    ("mul_to", mul_to),
     ("axis of two", axis::<2>),
     ("axis of three", axis::<3>),
     ("columns by an axis of two", columns::<2>),
@@ -130,19 +129,6 @@ fn scalings(random: &mut Random) -> Both {
 fn matrix(random: &mut Random, least: usize) -> (usize, Vec<f64>) {
     let n = between(random, least, 7);
     (n, list(random, n * n))
-}
-
-fn mul_to(random: &mut Random) -> Both {
-    let (n, t) = matrix(random, 1);
-    let (rows, k) = (between(random, 1, n), between(random, 1, n));
-    let c0 = between(random, 0, n - k);
-    let (a, w) = (list(random, k), list(random, rows));
-    let (mut plain, mut own) = (w.clone(), DVector::from_vec(w));
-    plain::mul_to(&a, &t, n, rows, c0, &mut plain);
-    DMatrix::from_vec(n, n, t)
-        .view((0, c0), (rows, k))
-        .mul_to(&DVector::from_vec(a), &mut own);
-    (plain, own.as_slice().to_vec())
 }
 
 fn axis<const N: usize>(random: &mut Random) -> Both {

@@ -65,17 +65,6 @@ pub fn fits(n: usize, len: usize, row: usize, rows: usize, col: usize, cols: usi
     n <= 64 && len == n * n && within(row, rows) && within(col, cols)
 }
 
-/// 2.9: for each row the products from left to right, the first one bare.
-pub fn mul_to(a: &[f64], t: &[f64], n: usize, rows: usize, c0: usize, w: &mut [f64]) {
-    if !fits(n, t.len(), 0, rows, c0, a.len()) || rows > w.len() {
-        return;
-    }
-    for (i, e) in w[..rows].iter_mut().enumerate() {
-        let products: Vec<f64> = (0..a.len()).map(|j| t[i + (c0 + j) * n] * a[j]).collect();
-        *e = products.into_iter().reduce(|sum, p| sum + p).unwrap_or(0.0);
-    }
-}
-
 /// 5.1 with the norm, which is what the sine was divided by.
 pub fn try_new(x: f64, y: f64, eps: f64) -> Option<(f64, f64, f64)> {
     let (c, s) = model::givens(x, y, eps)?;
