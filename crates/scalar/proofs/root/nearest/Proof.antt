@@ -11,14 +11,20 @@ use Rattle.scalar.proofs.root.nearest.Statement.{statement}
 use Rattle.scalar.proofs.root.nearest.Tie as tie
 
 gap-requires : tie.Need-gap-requires
-gap-requires c κs = omega (arith, c .square .ensures .1)
+gap-requires c κs = omega (arith, c .square .ensures .high)
 
 -- X + r is r * r and what `gap` answers
 rest : (c : tie.After-gap) → (c .gap .result < 0xffff_ffff_ffff_ffff)
     → c .before .before .before .args .top * 2 ^ 42 + c .before .before .before .args .r
     ≡ c .before .before .before .args .r * c .before .before .before .args .r + c .gap .result
 rest c h =
-    omega (arith, c .gap .ensures h, c .before .before .plus .ensures .0, c .before .square .ensures .0, scaled-words (c .before .before .before .args .top))
+    omega (
+      arith,
+      c .gap .ensures h,
+      c .before .before .plus .ensures .value,
+      c .before .square .ensures .value,
+      scaled-words (c .before .before .before .args .top),
+    )
 
 returns : tie.Need-returns
 returns c =

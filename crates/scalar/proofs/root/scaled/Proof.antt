@@ -11,7 +11,7 @@ mul-t9 : tie.Need-mul-t9
 mul-t9 c = record { fits = room-both _ _ (omega arith) }
 
 returns-2 : tie.Need-returns-2
-returns-2 c = (placed-both _ _ (c .before .pre .1) (omega arith) refl, c .before .pre .1)
+returns-2 c = record { placed = placed-both _ _ (c .before .pre .below) (omega arith) refl; finite = c .before .pre .below }
 
 pub scaled-spec : {M : Type 1} → statement M
 scaled-spec = tie.close (tie.spec
