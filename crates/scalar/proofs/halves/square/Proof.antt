@@ -4,7 +4,6 @@ use Prim.Native.Nat.{ℕ, _+_, _*_, _/_, _%_, _^_}
 use mathlib.Core.Path.{ap, _∙_}
 use native.Mathlib.Nat.{div-add-mod'}
 use native.Mathlib.Omega.{arith}
-use borrow.Author.Needs.{needs}
 use Rattle.scalar.proofs.halves.Laws.{Halves, halves, squared}
 use Rattle.scalar.proofs.halves.square.Statement.{statement}
 use Rattle.scalar.proofs.halves.square.Tie as tie
@@ -28,9 +27,9 @@ square-spec = tie.close (tie.spec
     (λ c. omega (arith, parts c))
     (λ c. omega (arith, parts c))
     (λ c. omega (arith, parts c))
-    (λ c. search needs)
+    (λ c. omega arith)
     (λ c. omega (arith, parts c))
     (λ c κs. omega (arith, parts c))
-    (λ c. search needs)
+    (λ c. omega arith)
     (λ c κs. omega (arith, parts (c .before), c .plus .ensures .high))
     returns)

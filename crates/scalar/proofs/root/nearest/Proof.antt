@@ -4,7 +4,6 @@ use Prim.Native.Nat.{_+_, _*_, _^_, _<_}
 use mathlib.Core.Path.{_≡_}
 use mathlib.Core.Bool.{false≢true}
 use native.Mathlib.Omega.{arith}
-use borrow.Author.Needs.{needs}
 use Rattle.scalar.proofs.halves.Laws.{scaled-words}
 use Rattle.scalar.proofs.root.Steps.{take-it}
 use Rattle.scalar.proofs.root.nearest.Statement.{statement}
@@ -39,9 +38,9 @@ returns-3 c = λ e. absurd (false≢true e)
 
 pub nearest-spec : {M : Type 1} → statement M
 nearest-spec = tie.close (tie.spec
-    (λ c. search needs) (λ c κs. search needs) (λ c κs. search needs)
+    (λ c. omega arith) (λ c κs. omega arith) (λ c κs. omega arith)
     gap-requires
-    (λ c. search needs)
+    (λ c. omega arith)
     returns
     returns-2
     returns-3)

@@ -2,7 +2,6 @@
 -- and R's pattern is the answer's (`answer`). Assumes nothing.
 use mathlib.Core.Path.{_∙_}
 use native.Mathlib.Omega.{arith}
-use borrow.Author.Needs.{needs}
 use Rattle.loops.specs.Tests.{truth}
 use Rattle.scalar.proofs.Patterns.{no-pattern, below-no-nan, back}
 use Rattle.scalar.proofs.root.Units.{Answer, answer}
@@ -62,18 +61,18 @@ float-from-bits-result-3 c = no-pattern _ (omega (arith, made c .high, c .before
 
 pub positive-spec : {M : Type 1} → statement M
 positive-spec = tie.close (tie.spec
-    (λ c. search needs) (λ c. search needs) (λ c. search needs)
+    (λ c. omega arith) (λ c. omega arith) (λ c. omega arith)
     (λ c. no-pattern _ (omega arith))
     returns
-    (λ c κs. search needs) (λ c. search needs) (λ c. search needs) (λ c κs. search needs)
+    (λ c κs. omega arith) (λ c. omega arith) (λ c. omega arith) (λ c κs. omega arith)
     float-to-bits-t
-    (λ c. search needs) (λ c κs. search needs)
+    (λ c. omega arith) (λ c κs. omega arith)
     returns-2
-    (λ c κs. search needs)
+    (λ c κs. omega arith)
     add-result-2
     float-from-bits-result-2
     (λ c. found c .is)
-    (λ c κs. search needs)
+    (λ c κs. omega arith)
     add-result-3
     float-from-bits-result-3
     (λ c. made c .is))

@@ -1,7 +1,6 @@
 -- `scalar::root::scaled` meets its contract: the parity of the exponent goes into top, and half the exponent into h. Assumes nothing.
 use mathlib.Core.Path.{refl}
 use native.Mathlib.Omega.{arith}
-use borrow.Author.Needs.{needs}
 use Rattle.scalar.proofs.root.Steps.{placed-both, room-both}
 use Rattle.scalar.proofs.root.scaled.Statement.{statement}
 use Rattle.scalar.proofs.root.scaled.Tie as tie
@@ -15,7 +14,7 @@ returns-2 c = record { placed = placed-both _ _ (c .before .pre .below) (omega a
 
 pub scaled-spec : {M : Type 1} → statement M
 scaled-spec = tie.close (tie.spec
-    (λ c κs. search needs) (λ c. search needs) (λ c. search needs) (λ c. search needs) (λ c. search needs) (λ c. search needs)
+    (λ c κs. omega arith) (λ c. omega arith) (λ c. omega arith) (λ c. omega arith) (λ c. omega arith) (λ c. omega arith)
     mul-t9
-    (λ c. search needs)
+    (λ c. omega arith)
     returns-2)
