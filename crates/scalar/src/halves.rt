@@ -1,7 +1,7 @@
 // Numbers of up to 128 digits, in two words. The lower word runs round at 2^64, and the carry is read
 // from a comparison.
 ghost use mathlib.Core.Path.{_≡_};
-ghost use Prim.Native.Nat.{_+_, _*_, _^_, _≤_, _<_};
+ghost use Prim.Native.Nat.{_+_, _*_, _^_, _<_};
 ghost use Rattle.scalar.specs.Inner.{valueOf, InTwo};
 
 // The number hi * 2^64 + lo.
