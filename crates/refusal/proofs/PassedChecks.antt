@@ -30,6 +30,18 @@ order-passed n h =
     let none = eqb-false n 0 (refuse-passed _ _ (a .0)) in
     record { some = omega arith; order = ltb-false 64 n (refuse-passed _ _ (a .1)) }
 
+-- with what is checked behind it
+pub record OrderThen (n : ℕ) (others : Checked) : Type 0 where
+  pub some : 1 ≤ n
+  pub order : n ≤ 64
+  pub behind : others ≡ Passed
+
+pub order-then : (n : ℕ) (others : Checked) → (orderChecks n next others) ≡ Passed → OrderThen n others
+order-then n others h =
+    let a = next-passed _ _ h in
+    let o = order-passed n (a .0) in
+    record { some = o .some; order = o .order; behind = a .1 }
+
 pub order-passes : {n : ℕ} → 1 ≤ n → n ≤ 64 → orderChecks n ≡ Passed
 unfolding orderChecks refuse _next_
 order-passes {n} some order = rw (ne-eqb n 0 (λ e. omega arith), le-ltb 64 n order)
@@ -39,6 +51,14 @@ order-passes {n} some order = rw (ne-eqb n 0 (λ e. omega arith), le-ltb 64 n or
 pub length-passed : (fault : Refusal) (has needs : ℕ) → lengthCheck fault has needs ≡ Passed → has ≡ needs
 unfolding lengthCheck
 length-passed fault has needs h = eqb-true has needs (not-false _ (refuse-passed _ _ h))
+
+-- with what is checked behind it
+pub record LengthThen (has needs : ℕ) (others : Checked) : Type 0 where
+  pub size : has ≡ needs
+  pub behind : others ≡ Passed
+
+pub length-then : (fault : Refusal) (has needs : ℕ) (others : Checked) → (lengthCheck fault has needs next others) ≡ Passed → LengthThen has needs others
+length-then fault has needs others h = let a = next-passed _ _ h in record { size = length-passed fault has needs (a .0); behind = a .1 }
 
 pub length-passes : (fault : Refusal) {has needs : ℕ} → has ≡ needs → lengthCheck fault has needs ≡ Passed
 unfolding lengthCheck refuse
