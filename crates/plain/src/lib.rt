@@ -16,8 +16,8 @@ ghost use Rattle.refusal.specs.Refusal.{_next_};
 ghost use Rattle.refusal.specs.Checks.{orderChecks, givenChecks};
 ghost use Rattle.decomposition.specs.Decomposition.{outcome};
 ghost use Rattle.eigenvalues.specs.Readers.{read, leftBy};
-ghost use Rattle.plain.specs.Plain.{plainLengths, Sized, plainTwo, plainRan, plainRun, inPlace, plainBegun};
-ghost use Rattle.plain.specs.Plain.{plainPlacedOf, plainFiniteOf, plain, kept, plainOf};
+ghost use Rattle.plain.specs.Plain.{plainLengths, Sized, SizedTo, plainTwo, plainRan, plainRun, inPlace};
+ghost use Rattle.plain.specs.Plain.{plainBegun, plainPlacedOf, plainFiniteOf, plain, kept, plainOf};
 use decomposition::Decomposed;
 use pass::Block;
 use pass::Eigvals;
@@ -215,7 +215,7 @@ fn plain_in(m: &[f64], n: usize, values: &mut [f64], room: &mut [f64], work: &mu
 
 // Small orders do not pay for clearing a large room.
 fn plain_8(m: &[f64], n: usize, values: &mut [f64], work: &mut [f64]) -> Checked
-    requires { ⌜ Sized n (length (now m)) (length (now values)) (length (now work)) × (n ≤ 8) ⌝ }
+    requires { ⌜ SizedTo 8 n (length (now m)) (length (now values)) (length (now work)) ⌝ }
     ensures { λ r. ⌜ plain r (now (values .exit)) (now (work .exit))
         ≡ kept (plainBegun Passed n (now (m .entry)) (now (values .entry)) (now (work .entry))) ⌝ }
 {
@@ -224,7 +224,7 @@ fn plain_8(m: &[f64], n: usize, values: &mut [f64], work: &mut [f64]) -> Checked
 }
 
 fn plain_32(m: &[f64], n: usize, values: &mut [f64], work: &mut [f64]) -> Checked
-    requires { ⌜ Sized n (length (now m)) (length (now values)) (length (now work)) × (n ≤ 32) ⌝ }
+    requires { ⌜ SizedTo 32 n (length (now m)) (length (now values)) (length (now work)) ⌝ }
     ensures { λ r. ⌜ plain r (now (values .exit)) (now (work .exit))
         ≡ kept (plainBegun Passed n (now (m .entry)) (now (values .entry)) (now (work .entry))) ⌝ }
 {
