@@ -82,8 +82,8 @@ pub record Lent (wanted : Bool) (needs tn qn : ℕ) : Type 0 where
 pub lent-passed : (wanted : Bool) (needs tn qn : ℕ) → lentLengths wanted needs tn qn ≡ Passed → Lent wanted needs tn qn
 unfolding lentLengths
 lent-passed wanted needs tn qn h =
-    let a = next-passed _ _ h in
-    record { t = length-passed _ tn needs (a .0); q = λ e. length-passed _ qn needs (asked-passed wanted _ (a .1) e) }
+    let l = length-then _ tn needs _ h in
+    record { t = l .size; q = λ e. length-passed _ qn needs (asked-passed wanted _ (l .behind) e) }
 
 pub lent-passes : {wanted : Bool} {needs tn qn : ℕ} → Lent wanted needs tn qn → lentLengths wanted needs tn qn ≡ Passed
 unfolding lentLengths
@@ -98,9 +98,9 @@ pub record Matrices (wanted : Bool) (needs mn tn qn : ℕ) : Type 0 where
 pub matrices-passed : (wanted : Bool) (needs mn tn qn : ℕ) → matrixLengths wanted needs mn tn qn ≡ Passed → Matrices wanted needs mn tn qn
 unfolding matrixLengths
 matrices-passed wanted needs mn tn qn h =
-    let a = next-passed _ _ h in
-    let l = lent-passed wanted needs tn qn (a .1) in
-    record { m = length-passed _ mn needs (a .0); t = l .t; q = l .q }
+    let a = length-then _ mn needs _ h in
+    let l = lent-passed wanted needs tn qn (a .behind) in
+    record { m = a .size; t = l .t; q = l .q }
 
 pub matrices-passes : {wanted : Bool} {needs mn tn qn : ℕ} → Matrices wanted needs mn tn qn → matrixLengths wanted needs mn tn qn ≡ Passed
 unfolding matrixLengths
@@ -127,9 +127,8 @@ pub record Allowed (lengths : Checked) (n : ℕ) (m : List Float) : Type 0 where
 pub given-passed : (lengths : Checked) (n : ℕ) (m : List Float) → givenChecks lengths n m ≡ Passed → Allowed lengths n m
 unfolding givenChecks
 given-passed lengths n m h =
-    let a = next-passed _ _ h in
-    let b = next-passed _ _ (a .1) in
-    let o = order-passed n (a .0) in
+    let o = order-then n _ h in
+    let b = next-passed _ _ (o .behind) in
     record { some = o .some; order = o .order; lent = b .0; entries = entries-passed n m (b .1) }
 
 pub given-passes : {lengths : Checked} {n : ℕ} {m : List Float} → Allowed lengths n m → givenChecks lengths n m ≡ Passed
