@@ -44,11 +44,6 @@ pub record Sized (n mn vn wn : ℕ) : Type 0 where
   pub list : vn ≡ n
   pub room : wn ≡ 2 * n
 
--- and where the order is at most k as well
-pub record SizedTo (k n mn vn wn : ℕ) : Type 0 where
-  pub sized : Sized n mn vn wn
-  pub most : n ≤ k
-
 -- ---- order 2: no run, and the larger one first
 
 abbrev pub bothOf : Values → List Float
