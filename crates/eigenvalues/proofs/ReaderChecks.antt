@@ -9,8 +9,8 @@ use Rattle.refusal.specs.declared.refusal.Checked.{Checked}
 use Rattle.refusal.specs.declared.refusal.Checked.the-variants.{Passed}
 use Rattle.refusal.specs.Refusal.{_next_}
 use Rattle.refusal.specs.Checks.{orderChecks, lengthCheck}
-use Rattle.refusal.proofs.ChecksInTurn.{next-passed, next-passes}
-use Rattle.refusal.proofs.PassedChecks.{order-passed, length-passed, given-passed}
+use Rattle.refusal.proofs.ChecksInTurn.{next-passed, next-before}
+use Rattle.refusal.proofs.PassedChecks.{order-then, length-passed, length-then, given-passed}
 use Rattle.eigenvalues.specs.Readers.{readable, finiteReadable}
 
 -- ---- what both readers check
@@ -25,23 +25,21 @@ pub readable-fit : (n : ℕ) (t : List Float) (lists : Checked) → readable (le
 unfolding readable
 readable-fit n t lists h =
     let g = given-passed _ n t (next-passed _ _ h .0) in
-    let l = next-passed _ _ (g .lent) in
-    record { order = g .order; size = length-passed _ (length t) (n * n) (l .0); room = l .1 }
+    let l = length-then _ _ _ _ (g .lent) in
+    record { order = g .order; size = l .size; room = l .behind }
 
 -- the same where the entries and the shape are not looked at
 pub sizes-fit : (n len : ℕ) (lists : Checked) → (orderChecks n next lengthCheck WrongLength len (n * n) next lists) ≡ Passed → Fit n len lists
 sizes-fit n len lists h =
-    let a = next-passed _ _ h in
-    let l = next-passed _ _ (a .1) in
-    record { order = order-passed n (a .0) .order; size = length-passed _ len (n * n) (l .0); room = l .1 }
+    let o = order-then _ _ h in
+    let l = length-then _ _ _ _ (o .behind) in
+    record { order = o .order; size = l .size; room = l .behind }
 
 -- and where the entries alone are not
 pub finite-fit : (n : ℕ) (t : List Float) (lists : Checked) → finiteReadable (lengthCheck WrongLength (length t) (n * n) next lists) n t ≡ Passed
     → Fit n (length t) lists
 unfolding finiteReadable
-finite-fit n t lists h =
-    let a = next-passed _ _ h in
-    sizes-fit n _ lists (next-passes (a .0) (next-passed _ _ (a .1) .0))
+finite-fit n t lists h = sizes-fit n _ lists (next-before _ _ _ h)
 
 -- ---- the lists of each
 
@@ -49,4 +47,4 @@ pub real-room : {n tn vn : ℕ} → Fit n tn (lengthCheck WrongLength vn n) → 
 real-room f = (f .order, f .size, length-passed _ _ _ (f .room))
 
 pub complex-room : {n tn re im : ℕ} → Fit n tn (lengthCheck WrongLength re n next lengthCheck WrongLength im n) → (n ≤ 64) × (tn ≡ n * n) × (re ≡ n) × (im ≡ n)
-complex-room f = let b = next-passed _ _ (f .room) in (f .order, f .size, length-passed _ _ _ (b .0), length-passed _ _ _ (b .1))
+complex-room f = let l = length-then _ _ _ _ (f .room) in (f .order, f .size, l .size, length-passed _ _ _ (l .behind))

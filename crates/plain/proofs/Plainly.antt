@@ -1,5 +1,5 @@
 -- The plain entry, told of the pieces that the code has in hand. Assumes nothing.
-use Prim.Native.Nat.{ℕ, _*_}
+use Prim.Native.Nat.{ℕ}
 use mathlib.Core.Bool.{Bool, true, false, not}
 use mathlib.Core.Path.{_≡_, refl, sym, ap, _∙_}
 use mathlib.Core.List.{List, [], _∷_}
@@ -23,13 +23,14 @@ use Rattle.refusal.specs.declared.refusal.Checked.{Checked}
 use Rattle.refusal.specs.declared.refusal.Checked.the-variants.{Passed, Refused}
 use Rattle.refusal.specs.Refusal.{at, refuseAt, _next_, ifPassed}
 use Rattle.refusal.specs.Checks.{orderChecks, givenChecks}
-use Rattle.refusal.proofs.ChecksInTurn.{next-passed, next-passes}
-use Rattle.refusal.proofs.PassedChecks.{order-passed, length-passed}
+use Rattle.refusal.proofs.ChecksInTurn.{next-before}
+use Rattle.refusal.proofs.PassedChecks.{order-then, length-passed, length-then}
+use Rattle.refusal.proofs.Searching.{Sought, sought-none, sought-more}
 use Rattle.decomposition.specs.declared.Decomposed.the-variants.{Accepted, Declined}
 use Rattle.decomposition.specs.Decomposition.{Outcome, outcome, Settlement, decided, judged}
 use Rattle.decomposition.proofs.CheckedArguments.{sizes-fit}
 use Rattle.eigenvalues.specs.Readers.{pairCheck, diagonal, Read, read, leftBy}
-use Rattle.eigenvalues.proofs.DiagonalSearch.{Sought, sought-none, sought-more, place-here, place-none}
+use Rattle.eigenvalues.proofs.DiagonalSearch.{place-here, place-none}
 use Rattle.plain.specs.Plain.{plainLengths, Sized, bothOf, plainTwo, plainBudget, plainAsked, plainRan, complexChecked, plainRun, plainRead, plainLeft}
 use Rattle.plain.specs.Plain.{InPlace, inPlace, plainBegun}
 
@@ -38,24 +39,15 @@ use Rattle.plain.specs.Plain.{InPlace, inPlace, plainBegun}
 pub sizes-passed : (n mn vn wn : ℕ) → (orderChecks n next plainLengths n mn vn wn) ≡ Passed → Sized n mn vn wn
 unfolding plainLengths
 sizes-passed n mn vn wn h =
-    let a = next-passed _ _ h in
-    let o = order-passed n (a .0) in
-    let l = next-passed _ _ (a .1) in
-    let k = next-passed _ _ (l .1) in
-    record {
-      some = o .some;
-      order = o .order;
-      square = length-passed _ mn (n * n) (l .0);
-      list = length-passed _ vn n (k .0);
-      room = length-passed _ wn (2 * n) (k .1);
-    }
+    let o = order-then _ _ h in
+    let m = length-then _ _ _ _ (o .behind) in
+    let v = length-then _ _ _ _ (m .behind) in
+    record { some = o .some; order = o .order; square = m .size; list = v .size; room = length-passed _ _ _ (v .behind) }
 
 -- the entries stand behind them
 pub given-sized : (n mn vn wn : ℕ) (m : List Float) → givenChecks (plainLengths n mn vn wn) n m ≡ Passed → Sized n mn vn wn
 unfolding givenChecks
-given-sized n mn vn wn m h =
-    let a = next-passed _ _ h in
-    sizes-passed n mn vn wn (next-passes (a .0) (next-passed _ _ (a .1) .0))
+given-sized n mn vn wn m h = sizes-passed n mn vn wn (next-before _ _ _ h)
 
 -- so the run's own test holds
 pub run-fits : {n mn vn wn : ℕ} → Sized n mn vn wn → runFits n mn wn ≡ true
@@ -69,11 +61,11 @@ unfit v k = not (isFinite (bothOf v ! k))
 pub two-first : (v : Values) (values : List Float) → isFinite (v .first) ≡ false
     → read (Refused (ResultNotFinite (at 0 0))) values ≡ leftBy (plainTwo (Real v)) values
 unfolding plainTwo leftBy refuseAt ifPassed
-two-first v values h = rw (← place-here (sought-none (unfit v) 2) (omega arith) (ap not h))
+two-first v values h = rw (← place-here (sought-none (unfit v) 2 0 (omega arith)) (omega arith) (ap not h))
 
 -- the first is passed over
-past-first : (v : Values) → isFinite (v .first) ≡ true → Sought (unfit v) 2 1
-past-first v h = sought-more (sought-none (unfit v) 2) (omega arith) (ap not h)
+past-first : (v : Values) → isFinite (v .first) ≡ true → Sought (unfit v) 2 0 1
+past-first v h = sought-more (sought-none (unfit v) 2 0 (omega arith)) (omega arith) (ap not h)
 
 pub two-second : (v : Values) (values : List Float) → isFinite (v .first) ≡ true → isFinite (v .second) ≡ false
     → read (Refused (ResultNotFinite (at 1 1))) values ≡ leftBy (plainTwo (Real v)) values

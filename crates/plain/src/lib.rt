@@ -5,8 +5,6 @@ ghost use mathlib.Core.Bool.{true};
 ghost use mathlib.Core.List.{[]};
 ghost use lib.ListN.{length};
 ghost use Prim.Native.Nat.{_*_, _≤_};
-ghost use Rattle.loops.specs.Constants.{zero};
-ghost use Rattle.matrix.specs.Vectors.{filled};
 ghost use Rattle.pass.specs.declared.block.Eigvals.the-variants.{Real};
 ghost use Rattle.pass.specs.Block.{blockAt, eigvalsOf};
 ghost use Rattle.pass.specs.Pair.{pair};
@@ -16,8 +14,9 @@ ghost use Rattle.refusal.specs.Refusal.{_next_};
 ghost use Rattle.refusal.specs.Checks.{orderChecks, givenChecks};
 ghost use Rattle.decomposition.specs.Decomposition.{outcome};
 ghost use Rattle.eigenvalues.specs.Readers.{read, leftBy};
-ghost use Rattle.plain.specs.Plain.{plainLengths, Sized, plainTwo, plainRan, plainRun, inPlace, plainBegun};
+ghost use Rattle.plain.specs.Plain.{plainLengths, Sized, plainTwo, plainRan, inPlace, plainBegun};
 ghost use Rattle.plain.specs.Plain.{plainPlacedOf, plainFiniteOf, plain, kept, plainOf};
+ghost use Rattle.plain.specs.Inner.{SizedTo, TwoDone, RunDone};
 use decomposition::Decomposed;
 use pass::Block;
 use pass::Eigvals;
@@ -109,9 +108,8 @@ fn two_of(m: &[f64], values: &mut [f64]) -> Checked
 // Order 2: no run, so that the matrix is only read; the workspace is cleared as a run clears it.
 fn plain_two(m: &[f64], values: &mut [f64], work: &mut [f64]) -> Checked
     requires { ⌜ (length (now m) ≡ 4) × (length (now values) ≡ 2) ⌝ }
-    ensures { λ r. ⌜ (read r (now (values .exit))
-        ≡ leftBy (plainTwo (eigvalsOf (blockAt 2 0 (now (m .entry))))) (now (values .entry)))
-        × (now (work .exit) ≡ filled zero (now (work .entry))) ⌝ }
+    ensures { λ r. ⌜ TwoDone (now (m .entry)) (now (values .entry)) (now (work .entry)) r (now (values .exit))
+        (now (work .exit)) ⌝ }
 {
     matrix::fill(work, 0.0);
     two_of(m, values)
@@ -136,10 +134,8 @@ fn decompose(t: &mut [f64], n: usize, work: &mut [f64]) -> Decomposed
 // Every other order: the diagonal of T, if it is accepted and no block of two stands.
 fn plain_run(t: &mut [f64], n: usize, values: &mut [f64], work: &mut [f64]) -> Checked
     requires { ⌜ Sized n (length (now t)) (length (now values)) (length (now work)) ⌝ }
-    ensures { λ r. ⌜ (read r (now (values .exit))
-        ≡ leftBy (plainRun n (plainRan n (now (t .entry)) (now (work .entry)))) (now (values .entry)))
-        × (now (t .exit) ≡ plainRan n (now (t .entry)) (now (work .entry)) .pair .t)
-        × (now (work .exit) ≡ filled zero (now (work .entry))) ⌝ }
+    ensures { λ r. ⌜ RunDone n (now (t .entry)) (now (values .entry)) (now (work .entry)) r (now (t .exit))
+        (now (values .exit)) (now (work .exit)) ⌝ }
 {
     match decompose(t, n, work) {
         Decomposed::Declined(r) => Checked::Refused(r),
@@ -215,7 +211,7 @@ fn plain_in(m: &[f64], n: usize, values: &mut [f64], room: &mut [f64], work: &mu
 
 // Small orders do not pay for clearing a large room.
 fn plain_8(m: &[f64], n: usize, values: &mut [f64], work: &mut [f64]) -> Checked
-    requires { ⌜ Sized n (length (now m)) (length (now values)) (length (now work)) × (n ≤ 8) ⌝ }
+    requires { ⌜ SizedTo 8 n (length (now m)) (length (now values)) (length (now work)) ⌝ }
     ensures { λ r. ⌜ plain r (now (values .exit)) (now (work .exit))
         ≡ kept (plainBegun Passed n (now (m .entry)) (now (values .entry)) (now (work .entry))) ⌝ }
 {
@@ -224,7 +220,7 @@ fn plain_8(m: &[f64], n: usize, values: &mut [f64], work: &mut [f64]) -> Checked
 }
 
 fn plain_32(m: &[f64], n: usize, values: &mut [f64], work: &mut [f64]) -> Checked
-    requires { ⌜ Sized n (length (now m)) (length (now values)) (length (now work)) × (n ≤ 32) ⌝ }
+    requires { ⌜ SizedTo 32 n (length (now m)) (length (now values)) (length (now work)) ⌝ }
     ensures { λ r. ⌜ plain r (now (values .exit)) (now (work .exit))
         ≡ kept (plainBegun Passed n (now (m .entry)) (now (values .entry)) (now (work .entry))) ⌝ }
 {

@@ -21,6 +21,12 @@ unfolding _next_
 next-passed Passed d h = (refl, h)
 next-passed (Refused r) d h = absurd (refused-not-passed r h)
 
+-- the last may be left out
+pub next-before : (c d e : Checked) → (c next d next e) ≡ Passed → (c next d) ≡ Passed
+unfolding _next_
+next-before Passed d e h = next-passed d e h .0
+next-before (Refused r) d e h = h
+
 pub next-passes : {c d : Checked} → c ≡ Passed → d ≡ Passed → (c next d) ≡ Passed
 unfolding _next_
 next-passes h k = rw h k

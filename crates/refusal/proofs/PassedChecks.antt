@@ -30,6 +30,18 @@ order-passed n h =
     let none = eqb-false n 0 (refuse-passed _ _ (a .0)) in
     record { some = omega arith; order = ltb-false 64 n (refuse-passed _ _ (a .1)) }
 
+-- with what is checked behind it
+pub record OrderThen (n : ℕ) (others : Checked) : Type 0 where
+  pub some : 1 ≤ n
+  pub order : n ≤ 64
+  pub behind : others ≡ Passed
+
+pub order-then : (n : ℕ) (others : Checked) → (orderChecks n next others) ≡ Passed → OrderThen n others
+order-then n others h =
+    let a = next-passed _ _ h in
+    let o = order-passed n (a .0) in
+    record { some = o .some; order = o .order; behind = a .1 }
+
 pub order-passes : {n : ℕ} → 1 ≤ n → n ≤ 64 → orderChecks n ≡ Passed
 unfolding orderChecks refuse _next_
 order-passes {n} some order = rw (ne-eqb n 0 (λ e. omega arith), le-ltb 64 n order)
@@ -39,6 +51,14 @@ order-passes {n} some order = rw (ne-eqb n 0 (λ e. omega arith), le-ltb 64 n or
 pub length-passed : (fault : Refusal) (has needs : ℕ) → lengthCheck fault has needs ≡ Passed → has ≡ needs
 unfolding lengthCheck
 length-passed fault has needs h = eqb-true has needs (not-false _ (refuse-passed _ _ h))
+
+-- with what is checked behind it
+pub record LengthThen (has needs : ℕ) (others : Checked) : Type 0 where
+  pub size : has ≡ needs
+  pub behind : others ≡ Passed
+
+pub length-then : (fault : Refusal) (has needs : ℕ) (others : Checked) → (lengthCheck fault has needs next others) ≡ Passed → LengthThen has needs others
+length-then fault has needs others h = let a = next-passed _ _ h in record { size = length-passed fault has needs (a .0); behind = a .1 }
 
 pub length-passes : (fault : Refusal) {has needs : ℕ} → has ≡ needs → lengthCheck fault has needs ≡ Passed
 unfolding lengthCheck refuse
@@ -62,8 +82,8 @@ pub record Lent (wanted : Bool) (needs tn qn : ℕ) : Type 0 where
 pub lent-passed : (wanted : Bool) (needs tn qn : ℕ) → lentLengths wanted needs tn qn ≡ Passed → Lent wanted needs tn qn
 unfolding lentLengths
 lent-passed wanted needs tn qn h =
-    let a = next-passed _ _ h in
-    record { t = length-passed _ tn needs (a .0); q = λ e. length-passed _ qn needs (asked-passed wanted _ (a .1) e) }
+    let l = length-then _ tn needs _ h in
+    record { t = l .size; q = λ e. length-passed _ qn needs (asked-passed wanted _ (l .behind) e) }
 
 pub lent-passes : {wanted : Bool} {needs tn qn : ℕ} → Lent wanted needs tn qn → lentLengths wanted needs tn qn ≡ Passed
 unfolding lentLengths
@@ -78,9 +98,9 @@ pub record Matrices (wanted : Bool) (needs mn tn qn : ℕ) : Type 0 where
 pub matrices-passed : (wanted : Bool) (needs mn tn qn : ℕ) → matrixLengths wanted needs mn tn qn ≡ Passed → Matrices wanted needs mn tn qn
 unfolding matrixLengths
 matrices-passed wanted needs mn tn qn h =
-    let a = next-passed _ _ h in
-    let l = lent-passed wanted needs tn qn (a .1) in
-    record { m = length-passed _ mn needs (a .0); t = l .t; q = l .q }
+    let a = length-then _ mn needs _ h in
+    let l = lent-passed wanted needs tn qn (a .behind) in
+    record { m = a .size; t = l .t; q = l .q }
 
 pub matrices-passes : {wanted : Bool} {needs mn tn qn : ℕ} → Matrices wanted needs mn tn qn → matrixLengths wanted needs mn tn qn ≡ Passed
 unfolding matrixLengths
@@ -107,9 +127,8 @@ pub record Allowed (lengths : Checked) (n : ℕ) (m : List Float) : Type 0 where
 pub given-passed : (lengths : Checked) (n : ℕ) (m : List Float) → givenChecks lengths n m ≡ Passed → Allowed lengths n m
 unfolding givenChecks
 given-passed lengths n m h =
-    let a = next-passed _ _ h in
-    let b = next-passed _ _ (a .1) in
-    let o = order-passed n (a .0) in
+    let o = order-then n _ h in
+    let b = next-passed _ _ (o .behind) in
     record { some = o .some; order = o .order; lent = b .0; entries = entries-passed n m (b .1) }
 
 pub given-passes : {lengths : Checked} {n : ℕ} {m : List Float} → Allowed lengths n m → givenChecks lengths n m ≡ Passed

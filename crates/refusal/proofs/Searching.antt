@@ -1,5 +1,5 @@
--- A search column by column, as a loop makes it: what is left to search at column j is the whole. It finds nothing exactly where the test names no place.
--- Assumes nothing.
+-- A search as a loop makes it: what is left to search is the whole. From one number to the next, as along a row, a column or the diagonal; and column by
+-- column, which finds nothing exactly where the test names no place. Assumes nothing.
 use Prim.Native.Nat.{ℕ, _+_, _<_, _≤_}
 use mathlib.Core.Bool.{Bool, true, false, cond}
 use mathlib.Core.Path.{_≡_, refl, sym, ap, _∙_}
@@ -12,6 +12,28 @@ use Rattle.refusal.specs.declared.refusal.Place.{Place}
 use Rattle.refusal.specs.declared.search.Search.the-variants.{At, Nowhere}
 use Rattle.refusal.specs.Refusal.{at}
 use Rattle.refusal.specs.Search.{firstRow, firstCol, firstPlace}
+
+-- ---- number by number: the test names none from `from` to before k
+
+pub record Sought (test : ℕ → Bool) (n from k : ℕ) : Type 0 where
+  pub past : from ≤ k
+  pub upto : k ≤ n
+  pub left : firstFrom test n k ≡ firstFrom test n from
+
+pub sought-none : (test : ℕ → Bool) (n from : ℕ) → from ≤ n → Sought test n from from
+sought-none test n from h = record { past = omega arith; upto = h; left = refl }
+
+pub sought-more : {test : ℕ → Bool} {n from k : ℕ} → Sought test n from k → k < n → test k ≡ false → Sought test n from (k + 1)
+sought-more {test} {n} {from} {k} s l h = record { past = omega arith; upto = omega arith; left = sym (first-on test n k l h) ∙ s .left }
+
+-- here it is; or there is none
+pub sought-here : {test : ℕ → Bool} {n from k : ℕ} → Sought test n from k → test k ≡ true → k ≡ firstFrom test n from
+sought-here {test} {n} {from} {k} s h = sym (first-here test n k h) ∙ s .left
+
+pub sought-done : {test : ℕ → Bool} {n from k : ℕ} → Sought test n from k → n ≤ k → k ≡ firstFrom test n from
+sought-done {test} {n} {from} {k} s l = sym (first-none test n k l) ∙ s .left
+
+-- ---- column by column
 
 -- whether column j has such a row
 abbrev pub inColumn : (ℕ → ℕ → Bool) → ℕ → ℕ → Bool

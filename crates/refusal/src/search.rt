@@ -8,6 +8,7 @@ ghost use Rattle.loops.specs.First.{firstFrom};
 ghost use Rattle.loops.specs.Rounded.{_!_};
 ghost use Rattle.scalar.specs.Class.{isFinite};
 ghost use Rattle.refusal.specs.Search.{firstRow, firstPlace, notFinite, spoils, firstNotFinite, firstSpoiling};
+ghost use Rattle.refusal.specs.Inner.{Tallied};
 use crate::refusal::Place;
 
 pub enum Search {
@@ -49,7 +50,7 @@ fn place_not_finite(t: &[f64], n: usize) -> Search
 // The count, and one more where x is not finite.
 fn count(bad: usize, x: f64) -> usize
     requires { ⌜ bad < 18446744073709551615 ⌝ }
-    ensures { λ r. ⌜ (r ≤ bad + 1) × (r ≡ 0 → bad ≡ 0) × (r ≡ 0 → isFinite x ≡ true) ⌝ }
+    ensures { λ r. ⌜ Tallied bad (isFinite x) r ⌝ }
 {
     if scalar::is_finite(x) {
         return bad;

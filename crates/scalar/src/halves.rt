@@ -1,8 +1,8 @@
 // Numbers of up to 128 digits, in two words. The lower word runs round at 2^64, and the carry is read
 // from a comparison.
 ghost use mathlib.Core.Path.{_≡_};
-ghost use Prim.Native.Nat.{_+_, _*_, _^_, _≤_, _<_};
-ghost use Rattle.scalar.specs.Inner.{valueOf};
+ghost use Prim.Native.Nat.{_+_, _*_, _^_, _<_};
+ghost use Rattle.scalar.specs.Inner.{valueOf, InTwo};
 
 // The number hi * 2^64 + lo.
 pub struct Two {
@@ -13,7 +13,7 @@ pub struct Two {
 // a + b: where the lower word ran round, it is below what was added.
 pub(crate) fn plus(a: Two, b: u64) -> Two
     requires { ⌜ a .hi < 2 ^ 63 ⌝ }
-    ensures { λ r. ⌜ (valueOf (r .hi) (r .lo) ≡ valueOf (a .hi) (a .lo) + b) × (r .hi ≤ a .hi + 1) ⌝ }
+    ensures { λ r. ⌜ InTwo (valueOf (a .hi) (a .lo) + b) (a .hi + 2) (r .hi) (r .lo) ⌝ }
 {
     let lo = std::num::wrapping_add_u64(a.lo, b);
     if lo < b {
@@ -29,7 +29,7 @@ pub(crate) fn plus(a: Two, b: u64) -> Two
 // is within a word.
 pub(crate) fn square(r: u64) -> Two
     requires { ⌜ r < 2 ^ 53 ⌝ }
-    ensures { λ x. ⌜ (valueOf (x .hi) (x .lo) ≡ r * r) × (x .hi < 2 ^ 62) ⌝ }
+    ensures { λ x. ⌜ InTwo (r * r) (2 ^ 62) (x .hi) (x .lo) ⌝ }
 {
     let a = r / 0x800_0000;
     let c = r % 0x800_0000;

@@ -13,12 +13,12 @@ use crate::halves::plus;
 use crate::halves::square;
 ghost use mathlib.Core.Path.{_≡_};
 ghost use mathlib.Core.Bool.{true};
-ghost use Prim.Native.Nat.{_+_, _*_, _^_, _≤_, _<_};
+ghost use Prim.Native.Nat.{_+_, _*_, _^_, _<_};
 ghost use lib.Dec.{T};
 ghost use lib.Ieee.{binary64, ofBits, nanBits};
 ghost use Rattle.scalar.specs.Root.{rootOf, rootBits};
 ghost use Rattle.scalar.specs.Rooted.{Near};
-ghost use Rattle.scalar.specs.Inner.{Placed};
+ghost use Rattle.scalar.specs.Inner.{PositiveBelow, Scaled};
 
 // 2^52: the leading digit of a normal number, and one step of the exponent's field.
 const LEADING: u64 = 0x10_0000_0000_0000;
@@ -42,8 +42,8 @@ struct Place {
 
 // A number below the smallest normal one.
 fn lifted(w: u64) -> Place
-    requires { ⌜ (0 < w) × (w < 2 ^ 52) ⌝ }
-    ensures { λ r. ⌜ Placed w (r .top) (r .h) × (r .like < 0x7ff0_0000_0000_0000) ⌝ }
+    requires { ⌜ PositiveBelow (2 ^ 52) w ⌝ }
+    ensures { λ r. ⌜ Scaled w (r .top) (r .h) (r .like) ⌝ }
 {
     let mut top = w * 1024;
     let mut h = 26u64;
@@ -67,8 +67,8 @@ fn lifted(w: u64) -> Place
 
 // The number of the positive finite pattern w.
 fn scaled(w: u64) -> Place
-    requires { ⌜ (0 < w) × (w < 0x7ff0_0000_0000_0000) ⌝ }
-    ensures { λ r. ⌜ Placed w (r .top) (r .h) × (r .like < 0x7ff0_0000_0000_0000) ⌝ }
+    requires { ⌜ PositiveBelow 0x7ff0_0000_0000_0000 w ⌝ }
+    ensures { λ r. ⌜ Scaled w (r .top) (r .h) (r .like) ⌝ }
 {
     let f = w / LEADING;
     if f == 0 {
@@ -147,7 +147,7 @@ fn beside(top: u64, r: u64) -> u64
 // The root of the number of the positive finite pattern w. Near 1 it follows from the pattern. Else the
 // guess is the answer if its last 53 digits, the leading one with them, are those of R.
 fn positive(w: u64) -> f64
-    requires { ⌜ (0 < w) × (w < 0x7ff0_0000_0000_0000) ⌝ }
+    requires { ⌜ PositiveBelow 0x7ff0_0000_0000_0000 w ⌝ }
     ensures { λ r. ⌜ r ≡ rootOf (ofBits binary64 w) ⌝ }
 {
     if ONE - 0x400_0000 <= w {

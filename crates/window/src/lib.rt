@@ -2,7 +2,8 @@
 ghost use mathlib.Core.Path.{_≡_};
 ghost use lib.ListN.{length};
 ghost use Prim.Native.Nat.{_*_, _<_, _≤_};
-ghost use Rattle.window.specs.Window.{small, falling, endFrom, cut, startFrom, delimited, delimitHere, delimitOf};
+ghost use Rattle.window.specs.Window.{small, cut, delimited, delimitHere, delimitOf};
+ghost use Rattle.window.specs.Inner.{EndFound, StartFound};
 
 mod place;
 
@@ -32,7 +33,7 @@ fn is_small(t: &[f64], n: usize, eps: f64, i: usize) -> bool
 // The end, from `end` upward: past every entry that passes for zero, which becomes +0.
 fn delimit_end(t: &mut [f64], n: usize, eps: f64, end: usize) -> usize
     requires { ⌜ (n ≤ 64) × (length (now t) ≡ n * n) × (end < n) ⌝ }
-    ensures { λ r. ⌜ (falling r (now (t .exit)) ≡ endFrom n eps end (now (t .entry))) × (r ≤ end) ⌝ }
+    ensures { λ r. ⌜ EndFound n eps end (now (t .entry)) r (now (t .exit)) ⌝ }
 {
     let mut e = end;
     while e > 0 {
@@ -60,7 +61,7 @@ fn is_cut(t: &[f64], n: usize, eps: f64, i: usize) -> bool
 // The start of the window that ends at `end`.
 fn delimit_start(t: &[f64], n: usize, eps: f64, end: usize) -> usize
     requires { ⌜ (n ≤ 64) × (length (now t) ≡ n * n) × (0 < end) × (end < n) ⌝ }
-    ensures { λ r. ⌜ (r ≡ startFrom n eps end (now (t .entry))) × (r < end) ⌝ }
+    ensures { λ r. ⌜ StartFound n eps end (now (t .entry)) r ⌝ }
 {
     let mut s = end - 1;
     while s > 0 {

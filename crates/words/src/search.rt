@@ -8,6 +8,7 @@ ghost use lib.ListN.{length};
 ghost use Rattle.loops.specs.Rounded.{_!_};
 ghost use Rattle.scalar.specs.Class.{isFinite};
 ghost use Rattle.refusal.specs.Search.{firstRow, firstPlace, notFinite, firstNotFinite};
+ghost use Rattle.refusal.specs.Inner.{Tallied};
 ghost use Rattle.words.specs.Floats.{floatsOf};
 use crate::word::read_u64;
 
@@ -53,7 +54,7 @@ fn place_not_finite(b: &[u8], n: usize) -> refusal::Search
 // The count, and one more where a pattern is not that of a finite number.
 fn count(bad: usize, finite: bool) -> usize
     requires { ⌜ bad < 18446744073709551615 ⌝ }
-    ensures { λ r. ⌜ (r ≤ bad + 1) × (r ≡ 0 → bad ≡ 0) × (r ≡ 0 → finite ≡ true) ⌝ }
+    ensures { λ r. ⌜ Tallied bad finite r ⌝ }
 {
     if finite {
         return bad;

@@ -8,7 +8,7 @@ use Rattle.plain.proofs.plain_32.Tie as tie
 plain-in-requires : tie.Need-plain-in-requires
 plain-in-requires c κs =
     let start : tie.Start = search in
-    let pre = start .pre in (pre .0, mul-le-mul (pre .1) (pre .1))
+    let pre = start .pre in (pre .sized, mul-le-mul (pre .most) (pre .most))
 
 pub plain-32-spec : {M : Type 1} → statement M
 plain-32-spec = tie.close (tie.spec (λ c. search needs) plain-in-requires (λ c. omega arith) (λ c. omega arith)

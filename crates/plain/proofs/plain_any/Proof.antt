@@ -10,13 +10,14 @@ use Rattle.plain.proofs.plain_any.Tie as tie
 returns : tie.Need-returns
 returns c =
     let done : tie.After-plain-two = search in
-    begun-two (inPlace _ _ _ _) _ _ _ _ (done .before .before .before .before .if1 .taken) (done .plain-two .ensures .0) refl (done .plain-two .ensures .1)
+    let two = done .plain-two .ensures in
+    begun-two (inPlace _ _ _ _) _ _ _ _ (done .before .before .before .before .if1 .taken) (two .told) refl (two .cleared)
 
 returns-2 : tie.Need-returns-2
 returns-2 c =
     let done : tie.After-plain-run = search in
     let ran = done .plain-run .ensures in
-    begun-run (inPlace _ _ _ _) _ _ _ _ (done .before .before .before .before .if1 .left) (ran .0) (ran .1) (ran .2)
+    begun-run (inPlace _ _ _ _) _ _ _ _ (done .before .before .before .before .if1 .left) (ran .told) (ran .left) (ran .cleared)
 
 pub plain-any-spec : {M : Type 1} → statement M
 plain-any-spec = tie.close (tie.spec (λ c κs. omega (arith, ap (λ k. k * k) (c .before .before .before .if1 .taken))) (λ c. omega arith) (λ c. omega arith)

@@ -10,8 +10,8 @@ use Rattle.plain.proofs.plain_kept.Tie as tie
 returns : tie.Need-returns
 returns c =
     let done : tie.After-plain-two = search in
-    ap (λ p. kept p) (begun-two (inPlace _ _ _ _) _ _ _ _ (done .before .before .before .if1 .taken) (done .plain-two .ensures .0) refl
-    (done .plain-two .ensures .1))
+    let two = done .plain-two .ensures in
+    ap (λ p. kept p) (begun-two (inPlace _ _ _ _) _ _ _ _ (done .before .before .before .if1 .taken) (two .told) refl (two .cleared))
 
 pub plain-kept-spec : {M : Type 1} → statement M
 plain-kept-spec = tie.close (tie.spec (λ c κs. omega (arith, ap (λ k. k * k) (c .before .before .if1 .taken))) (λ c. omega arith) (λ c. omega arith) returns

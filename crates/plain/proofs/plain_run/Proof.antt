@@ -13,7 +13,11 @@ returns c =
     let after-decompose : tie.After-decompose = search in
     let told : tie.After-r = search in
     let left = after-decompose .decompose .ensures in
-    (run-refused _ _ _ _ (sym (ap (λ o. o .answer) left) ∙ told .r .given .1), ap (λ o. o .pair .t) left, ap (λ o. o .work) left ∙ judged-work _ _ _)
+    record {
+      told = run-refused _ _ _ _ (sym (ap (λ o. o .answer) left) ∙ told .r .given .1);
+      left = ap (λ o. o .pair .t) left;
+      cleared = ap (λ o. o .work) left ∙ judged-work _ _ _;
+    }
 
 returns-2 : tie.Need-returns-2
 returns-2 c =
@@ -22,11 +26,12 @@ returns-2 c =
     let done : tie.After-decompose = search in
     let left = done .decompose .ensures in
     let z = start .pre in
-    let here = c .before .before .diagonal-if-real .ensures ∙ diagonal-fits _ _ _ (z .some) (z .order) (omega arith) (omega arith) in (
-      run-read _ _ _ _ (sym (ap (λ o. o .answer) left) ∙ told .enum-told .given .1) (ap (λ o. o .pair .t) left) here,
-      ap (λ o. o .pair .t) left,
-      ap (λ o. o .work) left ∙ judged-work _ _ _,
-    )
+    let here = c .before .before .diagonal-if-real .ensures ∙ diagonal-fits _ _ _ (z .some) (z .order) (omega arith) (omega arith) in
+    record {
+      told = run-read _ _ _ _ (sym (ap (λ o. o .answer) left) ∙ told .enum-told .given .1) (ap (λ o. o .pair .t) left) here;
+      left = ap (λ o. o .pair .t) left;
+      cleared = ap (λ o. o .work) left ∙ judged-work _ _ _;
+    }
 
 pub plain-run-spec : {M : Type 1} → statement M
 plain-run-spec = tie.close (tie.spec (λ c κs. let start : tie.Start = search in

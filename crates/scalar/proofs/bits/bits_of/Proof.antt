@@ -1,7 +1,7 @@
 -- `scalar::bits::bits_of` meets its contract: a NaN by the pattern that the logic writes for it, any other float by its own. Assumes nothing.
 use mathlib.Core.Path.{sym, ap, _∙_}
 use lib.Ieee.{toBits, binary64}
-use borrow.Author.Needs.{needs}
+use native.Mathlib.Omega.{arith}
 use Rattle.scalar.proofs.Patterns.{only-nan, no-nan, nan-bits}
 use Rattle.scalar.proofs.bits.bits_of.Statement.{statement}
 use Rattle.scalar.proofs.bits.bits_of.Tie as tie
@@ -13,7 +13,7 @@ float-to-bits-result : tie.Need-float-to-bits-result
 float-to-bits-result c = no-nan _ (c .if1 .left)
 
 returns-2 : tie.Need-returns-2
-returns-2 c = search needs
+returns-2 c = omega arith
 
 pub bits-of-spec : {M : Type 1} → statement M
 bits-of-spec = tie.close (tie.spec returns float-to-bits-result returns-2)

@@ -1,6 +1,5 @@
 -- `scalar::guess::guess` is safe: the three patterns that it makes are no NaN's. Nothing is said of what it answers. Assumes nothing.
 use native.Mathlib.Omega.{arith}
-use borrow.Author.Needs.{needs}
 use Rattle.scalar.proofs.Patterns.{no-pattern}
 use Rattle.scalar.proofs.guess.guess.Statement.{statement}
 use Rattle.scalar.proofs.guess.guess.Tie as tie
@@ -16,10 +15,10 @@ float-from-bits-m c = no-pattern _ (omega arith)
 
 pub guess-spec : {M : Type 1} → statement M
 guess-spec = tie.close (tie.spec
-    (λ c κs. search needs) (λ c κs. search needs) (λ c. search needs)
+    (λ c κs. omega arith) (λ c κs. omega arith) (λ c. omega arith)
     float-from-bits-u
-    (λ c. search needs)
+    (λ c. omega arith)
     float-from-bits-k
-    (λ c. search needs) (λ c. search needs) (λ c. search needs) (λ c. search needs)
+    (λ c. omega arith) (λ c. omega arith) (λ c. omega arith) (λ c. omega arith)
     float-from-bits-m
-    (λ c. search needs) (λ c. search needs))
+    (λ c. omega arith) (λ c. omega arith))

@@ -2,7 +2,6 @@
 use mathlib.Core.Path.{_∙_}
 use mathlib.Core.Logic.{⊎-elim}
 use native.Mathlib.Omega.{arith}
-use borrow.Author.Needs.{needs}
 use Rattle.scalar.proofs.halves.Laws.{gap-carry, gap-plain}
 use Rattle.scalar.proofs.halves.gap.Statement.{statement}
 use Rattle.scalar.proofs.halves.gap.Tie as tie
@@ -17,4 +16,4 @@ returns c l =
     (c .before .before .if1 .came)
 
 pub gap-spec : {M : Type 1} → statement M
-gap-spec = tie.close (tie.spec (λ c κs. search needs) (λ c. search needs) returns (λ c. search needs))
+gap-spec = tie.close (tie.spec (λ c κs. omega arith) (λ c. omega arith) returns (λ c. omega arith))

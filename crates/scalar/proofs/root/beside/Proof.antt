@@ -1,5 +1,5 @@
 -- `scalar::root::beside` meets its contract: a neighbour is taken only where `nearest` says so. Assumes nothing.
-use borrow.Author.Needs.{needs}
+use native.Mathlib.Omega.{arith}
 use Rattle.scalar.proofs.root.beside.Statement.{statement}
 use Rattle.scalar.proofs.root.beside.Tie as tie
 
@@ -11,8 +11,8 @@ returns-2 c = c .before .nearest2 .ensures (c .if3 .taken)
 
 pub beside-spec : {M : Type 1} → statement M
 beside-spec = tie.close (tie.spec
-    (λ c. search needs) (λ c κs. search needs) (λ c. search needs)
+    (λ c. omega arith) (λ c κs. omega arith) (λ c. omega arith)
     returns
-    (λ c. search needs) (λ c κs. search needs) (λ c. search needs)
+    (λ c. omega arith) (λ c κs. omega arith) (λ c. omega arith)
     returns-2
-    (λ c κs. search needs) (λ c. search needs))
+    (λ c κs. omega arith) (λ c. omega arith))

@@ -12,19 +12,19 @@ abbrev μ-loop : tie.MeasureT-loop
 μ-loop w top₀ h₀ top h = h
 
 loop-holds : tie.Need-loop-holds Inv-loop μ-loop
-loop-holds c = lift-none _ (c .pre .0) (c .pre .1)
+loop-holds c = lift-none _ (c .pre .some) (c .pre .below)
 
 sub-h : tie.Need-sub-h Inv-loop μ-loop
-sub-h c = lift-left _ _ _ (c .before .before .pre .0) (c .before .loop .inv) (c .loop-test .taken)
+sub-h c = lift-left _ _ _ (c .before .before .pre .some) (c .before .loop .inv) (c .loop-test .taken)
 
 loop-again : tie.Need-loop-again Inv-loop μ-loop
-loop-again c = lift-more _ _ _ (c .before .before .pre .0) (c .before .loop .inv) (c .loop-test .taken)
+loop-again c = lift-more _ _ _ (c .before .before .pre .some) (c .before .loop .inv) (c .loop-test .taken)
 
 returns : tie.Need-returns Inv-loop μ-loop
-returns c = (lift-all _ _ _ (c .before .before .before .pre .1) (c .before .before .loop .inv) (omega arith), omega arith)
+returns c = record { placed = lift-all _ _ _ (c .before .before .before .pre .below) (c .before .before .loop .inv) (omega arith); finite = omega arith }
 
 returns-2 : tie.Need-returns-2 Inv-loop μ-loop
-returns-2 c = (lift-all _ _ _ (c .before .before .before .pre .1) (c .before .before .loop .inv) (omega arith), omega arith)
+returns-2 c = record { placed = lift-all _ _ _ (c .before .before .before .pre .below) (c .before .before .loop .inv) (omega arith); finite = omega arith }
 
 pub lifted-spec : {M : Type 1} → statement M
 lifted-spec = tie.close (tie.spec Inv-loop μ-loop

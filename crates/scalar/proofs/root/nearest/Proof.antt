@@ -4,21 +4,26 @@ use Prim.Native.Nat.{_+_, _*_, _^_, _<_}
 use mathlib.Core.Path.{_≡_}
 use mathlib.Core.Bool.{false≢true}
 use native.Mathlib.Omega.{arith}
-use borrow.Author.Needs.{needs}
 use Rattle.scalar.proofs.halves.Laws.{scaled-words}
 use Rattle.scalar.proofs.root.Steps.{take-it}
 use Rattle.scalar.proofs.root.nearest.Statement.{statement}
 use Rattle.scalar.proofs.root.nearest.Tie as tie
 
 gap-requires : tie.Need-gap-requires
-gap-requires c κs = omega (arith, c .square .ensures .1)
+gap-requires c κs = omega (arith, c .square .ensures .high)
 
 -- X + r is r * r and what `gap` answers
 rest : (c : tie.After-gap) → (c .gap .result < 0xffff_ffff_ffff_ffff)
     → c .before .before .before .args .top * 2 ^ 42 + c .before .before .before .args .r
     ≡ c .before .before .before .args .r * c .before .before .before .args .r + c .gap .result
 rest c h =
-    omega (arith, c .gap .ensures h, c .before .before .plus .ensures .0, c .before .square .ensures .0, scaled-words (c .before .before .before .args .top))
+    omega (
+      arith,
+      c .gap .ensures h,
+      c .before .before .plus .ensures .value,
+      c .before .square .ensures .value,
+      scaled-words (c .before .before .before .args .top),
+    )
 
 returns : tie.Need-returns
 returns c =
@@ -33,9 +38,9 @@ returns-3 c = λ e. absurd (false≢true e)
 
 pub nearest-spec : {M : Type 1} → statement M
 nearest-spec = tie.close (tie.spec
-    (λ c. search needs) (λ c κs. search needs) (λ c κs. search needs)
+    (λ c. omega arith) (λ c κs. omega arith) (λ c κs. omega arith)
     gap-requires
-    (λ c. search needs)
+    (λ c. omega arith)
     returns
     returns-2
     returns-3)

@@ -2,7 +2,6 @@
 -- and R's pattern is the answer's (`answer`). Assumes nothing.
 use mathlib.Core.Path.{_∙_}
 use native.Mathlib.Omega.{arith}
-use borrow.Author.Needs.{needs}
 use Rattle.loops.specs.Tests.{truth}
 use Rattle.scalar.proofs.Patterns.{no-pattern, below-no-nan, back}
 use Rattle.scalar.proofs.root.Units.{Answer, answer}
@@ -22,10 +21,10 @@ returns-2 c =
     let after-guess : tie.After-guess = search in
     let after-scaled : tie.After-scaled = search in
     let start : tie.Start = search in
-    let p = after-scaled .scaled .ensures .0 in
+    let p = after-scaled .scaled .ensures .placed in
     let g = after-guess .guess in
     back (g .result) _ (truth (g .ok)) (omega arith)
-    ∙ answer _ _ _ _ (start .pre .0) (start .pre .1) p (c .before .nearest .ensures (c .if6 .taken)) .is
+    ∙ answer _ _ _ _ (start .pre .some) (start .pre .below) p (c .before .nearest .ensures (c .if6 .taken)) .is
 
 -- what `beside` found
 found : (c : tie.After-beside)
@@ -34,17 +33,17 @@ found : (c : tie.After-beside)
 found c =
     let after-scaled : tie.After-scaled = search in
     let start : tie.Start = search in
-    answer _ _ _ _ (start .pre .0) (start .pre .1) (after-scaled .scaled .ensures .0) (c .beside .ensures)
+    answer _ _ _ _ (start .pre .some) (start .pre .below) (after-scaled .scaled .ensures .placed) (c .beside .ensures)
 
 add-result-2 : tie.Need-add-result-2
 add-result-2 c =
     let after-scaled : tie.After-scaled = search in
-    omega (arith, found c .high, after-scaled .scaled .ensures .0 .few)
+    omega (arith, found c .high, after-scaled .scaled .ensures .placed .few)
 
 float-from-bits-result-2 : tie.Need-float-from-bits-result-2
 float-from-bits-result-2 c =
     let after-scaled : tie.After-scaled = search in
-    no-pattern _ (omega (arith, found c .high, after-scaled .scaled .ensures .0 .few))
+    no-pattern _ (omega (arith, found c .high, after-scaled .scaled .ensures .placed .few))
 
 -- what `digits` found
 made : (c : tie.After-digits)
@@ -52,28 +51,28 @@ made : (c : tie.After-digits)
     Answer (start .args .w) (after-scaled .scaled .result .h) (c .digits .result)
 made c =
     let start : tie.Start = search in
-    answer _ _ _ _ (start .pre .0) (start .pre .1) (c .before .before .before .before .scaled .ensures .0) (c .digits .ensures)
+    answer _ _ _ _ (start .pre .some) (start .pre .below) (c .before .before .before .before .scaled .ensures .placed) (c .digits .ensures)
 
 add-result-3 : tie.Need-add-result-3
-add-result-3 c = omega (arith, made c .high, c .before .before .before .before .scaled .ensures .0 .few)
+add-result-3 c = omega (arith, made c .high, c .before .before .before .before .scaled .ensures .placed .few)
 
 float-from-bits-result-3 : tie.Need-float-from-bits-result-3
-float-from-bits-result-3 c = no-pattern _ (omega (arith, made c .high, c .before .before .before .before .scaled .ensures .0 .few))
+float-from-bits-result-3 c = no-pattern _ (omega (arith, made c .high, c .before .before .before .before .scaled .ensures .placed .few))
 
 pub positive-spec : {M : Type 1} → statement M
 positive-spec = tie.close (tie.spec
-    (λ c. search needs) (λ c. search needs) (λ c. search needs)
+    (λ c. omega arith) (λ c. omega arith) (λ c. omega arith)
     (λ c. no-pattern _ (omega arith))
     returns
-    (λ c κs. search needs) (λ c. search needs) (λ c. search needs) (λ c κs. search needs)
+    (λ c κs. omega arith) (λ c. omega arith) (λ c. omega arith) (λ c κs. omega arith)
     float-to-bits-t
-    (λ c. search needs) (λ c κs. search needs)
+    (λ c. omega arith) (λ c κs. omega arith)
     returns-2
-    (λ c κs. search needs)
+    (λ c κs. omega arith)
     add-result-2
     float-from-bits-result-2
     (λ c. found c .is)
-    (λ c κs. search needs)
+    (λ c κs. omega arith)
     add-result-3
     float-from-bits-result-3
     (λ c. made c .is))

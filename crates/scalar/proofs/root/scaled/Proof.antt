@@ -1,7 +1,6 @@
 -- `scalar::root::scaled` meets its contract: the parity of the exponent goes into top, and half the exponent into h. Assumes nothing.
 use mathlib.Core.Path.{refl}
 use native.Mathlib.Omega.{arith}
-use borrow.Author.Needs.{needs}
 use Rattle.scalar.proofs.root.Steps.{placed-both, room-both}
 use Rattle.scalar.proofs.root.scaled.Statement.{statement}
 use Rattle.scalar.proofs.root.scaled.Tie as tie
@@ -11,11 +10,11 @@ mul-t9 : tie.Need-mul-t9
 mul-t9 c = record { fits = room-both _ _ (omega arith) }
 
 returns-2 : tie.Need-returns-2
-returns-2 c = (placed-both _ _ (c .before .pre .1) (omega arith) refl, c .before .pre .1)
+returns-2 c = record { placed = placed-both _ _ (c .before .pre .below) (omega arith) refl; finite = c .before .pre .below }
 
 pub scaled-spec : {M : Type 1} → statement M
 scaled-spec = tie.close (tie.spec
-    (λ c κs. search needs) (λ c. search needs) (λ c. search needs) (λ c. search needs) (λ c. search needs) (λ c. search needs)
+    (λ c κs. omega arith) (λ c. omega arith) (λ c. omega arith) (λ c. omega arith) (λ c. omega arith) (λ c. omega arith)
     mul-t9
-    (λ c. search needs)
+    (λ c. omega arith)
     returns-2)

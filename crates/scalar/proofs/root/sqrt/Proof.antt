@@ -3,7 +3,6 @@ use mathlib.Core.Path.{refl, sym, ap, _∙_}
 use native.Mathlib.Omega.{arith}
 use lib.Ieee.{binary64}
 use lib.Ieee.Bits.{toBits-lt}
-use borrow.Author.Needs.{needs}
 use Rattle.loops.specs.Tests.{truth}
 use Rattle.scalar.specs.Root.{rootOf}
 use Rattle.scalar.proofs.Patterns.{no-nan, back}
@@ -45,13 +44,13 @@ returns-6 c =
 
 pub sqrt-spec : {M : Type 1} → statement M
 sqrt-spec = tie.close (tie.spec
-    (λ c κs. search needs)
+    (λ c κs. omega arith)
     returns
     float-to-bits-w
     returns-2
-    (λ c κs. search needs)
+    (λ c κs. omega arith)
     returns-3
     returns-4
     returns-5
-    (λ c κs. search needs)
+    (λ c κs. omega arith)
     returns-6)

@@ -1,19 +1,19 @@
 -- `scalar::root::sqrt_bits` meets its contract: the three calls, one inside the other. Assumes nothing.
 use mathlib.Core.Path.{_≡_, _∙_}
-use borrow.Author.Needs.{needs}
+use native.Mathlib.Omega.{arith}
 use Rattle.scalar.specs.Root.{rootBits}
 use Rattle.scalar.proofs.root.Special.{nan-bits-root}
 use Rattle.scalar.proofs.root.sqrt_bits.Statement.{statement}
 use Rattle.scalar.proofs.root.sqrt_bits.Tie as tie
 
 of-bits-requires : tie.Need-of-bits-requires
-of-bits-requires c κs = search needs
+of-bits-requires c κs = omega arith
 
 sqrt-requires : tie.Need-sqrt-requires
-sqrt-requires c κs = search needs
+sqrt-requires c κs = omega arith
 
 bits-of-requires : tie.Need-bits-of-requires
-bits-of-requires c κs = search needs
+bits-of-requires c κs = omega arith
 
 -- what the three calls make is `rootBits` of the pattern
 made : (c : tie.After-bits-of) → c .bits-of .result ≡ rootBits (c .before .before .before .args .w)

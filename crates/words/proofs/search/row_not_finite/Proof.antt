@@ -1,17 +1,17 @@
 -- `words::search::row_not_finite` meets its contract. Assumes nothing.
 use native.Mathlib.Omega.{arith}
-use Prim.Native.Nat.{_-_, _≤_}
+use Prim.Native.Nat.{_-_}
 use mathlib.Core.Bool.{not}
-use mathlib.Core.Path.{_≡_, refl, sym, ap, _∙_}
-use Rattle.loops.specs.First.{firstFrom, first-here, first-on, first-none}
+use mathlib.Core.Path.{sym, ap, _∙_}
 use Rattle.loops.specs.Place.{Placed, placed}
 use Rattle.refusal.specs.Search.{firstRow, notFinite}
+use Rattle.refusal.proofs.Searching.{Sought, sought-none, sought-more, sought-here, sought-done}
 use Rattle.words.specs.Floats.{floatsOf}
 use Rattle.words.proofs.search.row_not_finite.Statement.{statement}
 use Rattle.words.proofs.search.row_not_finite.Tie as tie
 
 abbrev Inv-loop : tie.InvT-loop
-Inv-loop b n j i₀ i = (i ≤ n) × (firstFrom (λ k. notFinite n (floatsOf b) k j) n i ≡ firstRow (notFinite n (floatsOf b)) n j)
+Inv-loop b n j i₀ i = Sought (λ k. notFinite n (floatsOf b) k j) n 0 i
 
 abbrev μ-loop : tie.MeasureT-loop
 μ-loop b n j i₀ i = n - i
@@ -19,22 +19,18 @@ abbrev μ-loop : tie.MeasureT-loop
 spot : (c : tie.In-loop Inv-loop μ-loop) → let x = c .before .before .before .args in Placed (x .n) (c .before .loop .i) (x .j)
 spot c = placed _ _ _ (omega arith) (omega arith) (omega arith)
 
-loop-holds : tie.Need-loop-holds Inv-loop μ-loop
-unfolding firstRow
-loop-holds c = (omega arith, refl)
-
 returns : tie.Need-returns Inv-loop μ-loop
-unfolding notFinite
-returns c = (sym (first-here _ _ _ (ap not (sym (c .before .is-finite .ensures)) ∙ c .if1 .taken)) ∙ c .before .before .before .loop .inv .1, omega arith)
+unfolding firstRow notFinite
+returns c = (sought-here (c .before .before .before .loop .inv) (ap not (sym (c .before .is-finite .ensures)) ∙ c .if1 .taken), omega arith)
 
 loop-again : tie.Need-loop-again Inv-loop μ-loop
 unfolding notFinite
-loop-again c =
-    (omega arith, sym (first-on _ _ _ (omega arith) (ap not (sym (c .before .is-finite .ensures)) ∙ c .if1 .left)) ∙ c .before .before .before .loop .inv .1)
+loop-again c = sought-more (c .before .before .before .loop .inv) (omega arith) (ap not (sym (c .before .is-finite .ensures)) ∙ c .if1 .left)
 
 returns-2 : tie.Need-returns-2 Inv-loop μ-loop
-returns-2 c = (sym (first-none _ _ _ (omega arith)) ∙ c .before .loop .inv .1, omega arith)
+unfolding firstRow
+returns-2 c = (sought-done (c .before .loop .inv) (omega arith), omega arith)
 
 pub row-not-finite-spec : {M : Type 1} → statement M
-row-not-finite-spec = tie.close (tie.spec Inv-loop μ-loop loop-holds (λ c. omega (arith, spot c)) (λ c. omega (arith, spot c))
+row-not-finite-spec = tie.close (tie.spec Inv-loop μ-loop (λ c. sought-none _ _ 0 (omega arith)) (λ c. omega (arith, spot c)) (λ c. omega (arith, spot c))
     (λ c κs. omega (arith, spot c)) returns (λ c. omega arith) (λ c. omega arith) loop-again returns-2)
