@@ -5,10 +5,10 @@ ghost use Prim.Native.Nat.{_*_, _≤_};
 ghost use lib.ListN.{length};
 ghost use Rattle.refusal.specs.declared.refusal.Checked.the-variants.{Passed};
 ghost use Rattle.refusal.specs.Refusal.{ifPassed};
-ghost use Rattle.words.specs.Floats.{bytesOf, zeros};
+ghost use Rattle.words.specs.Floats.{bytesOf};
 ghost use Rattle.door.specs.Lists.{secondLength, listLengths, listChecks, complexListed, listsBytes};
 ghost use Rattle.door.specs.declared.lists.ListEntry.the-variants.{Complex};
-ghost use Rattle.door.specs.Inner.{secondSize, evaluated, evaluatedBy, secondWritten};
+ghost use Rattle.door.specs.Inner.{ListUpTo, ListRooms, secondSize, evaluated, evaluatedBy, secondWritten};
 use crate::checks::check_entries;
 use answer::checked_number;
 use answer::refusal_number;
@@ -118,9 +118,7 @@ fn on_floats(
     x: &mut [f64],
     y: &mut [f64],
 ) -> u64
-    requires { ⌜ (listChecks (c .entry) (c .order) (now m) (length (now re)) (length (now im)) ≡ Passed)
-        × (length (now a) ≡ c .order * c .order) × (length (now x) ≡ c .order)
-        × (now y ≡ zeros (secondSize (c .entry) (c .order))) ⌝ }
+    requires { ⌜ ListRooms c (now m) (now re) (now im) (now a) (now x) (now y) ⌝ }
     ensures { λ r. ⌜ complexListed r (now (re .exit)) (now (im .exit))
         ≡ listsBytes (c .entry) (c .order) (now (m .entry)) (now (re .entry)) (now (im .entry)) ⌝ }
 {
@@ -146,8 +144,7 @@ fn second_size(entry: ListEntry, n: usize) -> usize
 
 // Small orders do not pay for clearing a large room.
 fn small(c: ListCall, m: &[u8], re: &mut [u8], im: &mut [u8]) -> u64
-    requires { ⌜ (c .order ≤ 8) × (c .order * c .order ≤ 64)
-        × (listChecks (c .entry) (c .order) (now m) (length (now re)) (length (now im)) ≡ Passed) ⌝ }
+    requires { ⌜ ListUpTo 8 c (now m) (now re) (now im) ⌝ }
     ensures { λ r. ⌜ complexListed r (now (re .exit)) (now (im .exit))
         ≡ listsBytes (c .entry) (c .order) (now (m .entry)) (now (re .entry)) (now (im .entry)) ⌝ }
 {
@@ -162,8 +159,7 @@ fn small(c: ListCall, m: &[u8], re: &mut [u8], im: &mut [u8]) -> u64
 }
 
 fn middle(c: ListCall, m: &[u8], re: &mut [u8], im: &mut [u8]) -> u64
-    requires { ⌜ (c .order ≤ 32) × (c .order * c .order ≤ 1024)
-        × (listChecks (c .entry) (c .order) (now m) (length (now re)) (length (now im)) ≡ Passed) ⌝ }
+    requires { ⌜ ListUpTo 32 c (now m) (now re) (now im) ⌝ }
     ensures { λ r. ⌜ complexListed r (now (re .exit)) (now (im .exit))
         ≡ listsBytes (c .entry) (c .order) (now (m .entry)) (now (re .entry)) (now (im .entry)) ⌝ }
 {
@@ -178,8 +174,7 @@ fn middle(c: ListCall, m: &[u8], re: &mut [u8], im: &mut [u8]) -> u64
 }
 
 fn large(c: ListCall, m: &[u8], re: &mut [u8], im: &mut [u8]) -> u64
-    requires { ⌜ (c .order ≤ 64) × (c .order * c .order ≤ 4096)
-        × (listChecks (c .entry) (c .order) (now m) (length (now re)) (length (now im)) ≡ Passed) ⌝ }
+    requires { ⌜ ListUpTo 64 c (now m) (now re) (now im) ⌝ }
     ensures { λ r. ⌜ complexListed r (now (re .exit)) (now (im .exit))
         ≡ listsBytes (c .entry) (c .order) (now (m .entry)) (now (re .entry)) (now (im .entry)) ⌝ }
 {

@@ -2,7 +2,7 @@
 // are a ladder of four sizes, since the language has no array whose length is known at run time only.
 ghost use mathlib.Core.Path.{_≡_};
 ghost use mathlib.Core.Bool.{true, cond, not};
-ghost use Prim.Native.Nat.{_*_, _≤_};
+ghost use Prim.Native.Nat.{_*_};
 ghost use lib.ListN.{length};
 ghost use lib.Ieee.{binary64, ofBits};
 ghost use Rattle.refusal.specs.declared.refusal.Refusal.the-variants.{ToleranceOutside, BudgetOutside};
@@ -10,8 +10,9 @@ ghost use Rattle.refusal.specs.declared.refusal.Checked.the-variants.{Passed};
 ghost use Rattle.refusal.specs.Refusal.{refuse, _next_};
 ghost use Rattle.refusal.specs.Checks.{entryChecks};
 ghost use Rattle.decomposition.specs.Checks.{toleranceFits, budgetFits};
-ghost use Rattle.words.specs.Floats.{floatsOf, bytesOf, zeros};
+ghost use Rattle.words.specs.Floats.{floatsOf, bytesOf};
 ghost use Rattle.door.specs.Matrices.{askedBy, matrices, matrixChecks, ranBytes};
+ghost use Rattle.door.specs.Inner.{MatrixUpTo, MatrixRooms};
 use crate::checks::check_entries;
 use answer::decomposed_number;
 use pass::Setting;
@@ -99,9 +100,7 @@ fn on_floats(
     c: &mut [f64],
     work: &mut [f64],
 ) -> u64
-    requires { ⌜ (matrixChecks r (now m) (length (now t)) (length (now q)) ≡ Passed)
-        × (length (now a) ≡ r .order * r .order) × (now c ≡ zeros (r .order * r .order))
-        × (now work ≡ zeros (2 * r .order)) ⌝ }
+    requires { ⌜ MatrixRooms r (now m) (now t) (now q) (now a) (now c) (now work) ⌝ }
     ensures { λ x. ⌜ matrices x (now (t .exit)) (now (q .exit)) ≡ ranBytes r (now (m .entry)) (now (q .entry)) ⌝ }
 {
     let asked = asked_by(r);
@@ -115,8 +114,7 @@ fn on_floats(
 
 // Small orders do not pay for clearing a large room.
 fn small(r: Request, m: &[u8], t: &mut [u8], q: &mut [u8]) -> u64
-    requires { ⌜ (r .order ≤ 8) × (r .order * r .order ≤ 64)
-        × (matrixChecks r (now m) (length (now t)) (length (now q)) ≡ Passed) ⌝ }
+    requires { ⌜ MatrixUpTo 8 r (now m) (now t) (now q) ⌝ }
     ensures { λ x. ⌜ matrices x (now (t .exit)) (now (q .exit)) ≡ ranBytes r (now (m .entry)) (now (q .entry)) ⌝ }
 {
     let n = r.order;
@@ -130,8 +128,7 @@ fn small(r: Request, m: &[u8], t: &mut [u8], q: &mut [u8]) -> u64
 // From here on a room is 72 numbers longer than it need be, so that T and Q do not lie a whole number of pages
 // apart, which took longer (docs/SPEED.md).
 fn modest(r: Request, m: &[u8], t: &mut [u8], q: &mut [u8]) -> u64
-    requires { ⌜ (r .order ≤ 16) × (r .order * r .order ≤ 256)
-        × (matrixChecks r (now m) (length (now t)) (length (now q)) ≡ Passed) ⌝ }
+    requires { ⌜ MatrixUpTo 16 r (now m) (now t) (now q) ⌝ }
     ensures { λ x. ⌜ matrices x (now (t .exit)) (now (q .exit)) ≡ ranBytes r (now (m .entry)) (now (q .entry)) ⌝ }
 {
     let n = r.order;
@@ -143,8 +140,7 @@ fn modest(r: Request, m: &[u8], t: &mut [u8], q: &mut [u8]) -> u64
 }
 
 fn middle(r: Request, m: &[u8], t: &mut [u8], q: &mut [u8]) -> u64
-    requires { ⌜ (r .order ≤ 32) × (r .order * r .order ≤ 1024)
-        × (matrixChecks r (now m) (length (now t)) (length (now q)) ≡ Passed) ⌝ }
+    requires { ⌜ MatrixUpTo 32 r (now m) (now t) (now q) ⌝ }
     ensures { λ x. ⌜ matrices x (now (t .exit)) (now (q .exit)) ≡ ranBytes r (now (m .entry)) (now (q .entry)) ⌝ }
 {
     let n = r.order;
@@ -156,8 +152,7 @@ fn middle(r: Request, m: &[u8], t: &mut [u8], q: &mut [u8]) -> u64
 }
 
 fn large(r: Request, m: &[u8], t: &mut [u8], q: &mut [u8]) -> u64
-    requires { ⌜ (r .order ≤ 64) × (r .order * r .order ≤ 4096)
-        × (matrixChecks r (now m) (length (now t)) (length (now q)) ≡ Passed) ⌝ }
+    requires { ⌜ MatrixUpTo 64 r (now m) (now t) (now q) ⌝ }
     ensures { λ x. ⌜ matrices x (now (t .exit)) (now (q .exit)) ≡ ranBytes r (now (m .entry)) (now (q .entry)) ⌝ }
 {
     let n = r.order;

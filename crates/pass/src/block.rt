@@ -1,10 +1,10 @@
 // A block of two rows and columns: its eigenvalues, and the rotation that makes it triangular.
 ghost use mathlib.Core.Path.{_≡_};
-ghost use lib.ListN.{length};
-ghost use Prim.Native.Nat.{_+_, _*_, _<_, _≤_};
+ghost use Prim.Native.Nat.{_+_, _<_};
 ghost use Rattle.pass.specs.Pair.{pair};
 ghost use Rattle.pass.specs.Block.{blockAt, discriminant, eigvalsOf, basisOf, turnedT, turnedQ, splitAt};
 ghost use Rattle.pass.specs.Block.{columnsIn, orderTwo};
+ghost use Rattle.pass.specs.Inner.{Reaches};
 use crate::place::get;
 use crate::place::put;
 use crate::setting::Setting;
@@ -37,7 +37,7 @@ pub enum Basis {
 
 // The block with its upper left entry in row and column k.
 fn block_at(t: &[f64], n: usize, k: usize) -> Block
-    requires { ⌜ (n ≤ 64) × (length (now t) ≡ n * n) × (k + 1 < n) ⌝ }
+    requires { ⌜ Reaches n (k + 1) (now t) ⌝ }
     ensures { λ r. ⌜ r ≡ blockAt n k (now (t .entry)) ⌝ }
 {
     Block {
@@ -94,7 +94,7 @@ pub fn compute_2x2_basis(m: Block) -> Basis
 
 // T turned by the rotation of the block at k: the block becomes triangular, or is left standing.
 fn turn_t(basis: Basis, t: &mut [f64], n: usize, k: usize)
-    requires { ⌜ (n ≤ 64) × (length (now t) ≡ n * n) × (k + 1 < n) ⌝ }
+    requires { ⌜ Reaches n (k + 1) (now t) ⌝ }
     ensures { λ _. ⌜ now (t .exit) ≡ turnedT n k basis (now (t .entry)) ⌝ }
 {
     let Basis::Rotate(rot) = basis else {

@@ -1,8 +1,7 @@
 // One double-shift pass over a window of three or more rows. T is t, Q is q; q is rewritten only where it is
 // wanted.
 ghost use mathlib.Core.Path.{_≡_};
-ghost use lib.ListN.{length};
-ghost use Prim.Native.Nat.{_+_, _*_, _<_, _≤_};
+ghost use Prim.Native.Nat.{_+_, _<_, _≤_};
 ghost use Rattle.loops.specs.Constants.{one};
 ghost use Rattle.matrix.specs.Sum.{bare};
 ghost use Rattle.matrix.specs.Vectors.{list2, list3};
@@ -10,6 +9,7 @@ ghost use Rattle.reflection.specs.Reflected.{reflected, reflectedRows};
 ghost use Rattle.pass.specs.Pair.{pair};
 ghost use Rattle.pass.specs.Pass.{firstColumn, bulge, bulgeEnd, columnAt, sweptPast, reflectedAt, rowsAt, stepAt};
 ghost use Rattle.pass.specs.Pass.{chased, closing, passHere, passOf};
+ghost use Rattle.pass.specs.Inner.{Reaches};
 use crate::place::get;
 use crate::place::put;
 use crate::setting::Setting;
@@ -19,7 +19,7 @@ use window::Window;
 
 // The first column, from the shifts.
 fn first_column(t: &[f64], n: usize, start: usize, end: usize) -> Vector3
-    requires { ⌜ (n ≤ 64) × (length (now t) ≡ n * n) × (start + 2 ≤ end) × (end < n) ⌝ }
+    requires { ⌜ Reaches n end (now t) × (start + 2 ≤ end) ⌝ }
     ensures { λ r. ⌜ r ≡ firstColumn n start end (now (t .entry)) ⌝ }
 {
     let m = end - 1;
@@ -43,7 +43,7 @@ fn first_column(t: &[f64], n: usize, start: usize, end: usize) -> Vector3
 
 // The bulge at k: column k - 1 from row k on, three numbers of it, and two at the window's end.
 fn bulge3(t: &[f64], n: usize, k: usize) -> Vector3
-    requires { ⌜ (n ≤ 64) × (length (now t) ≡ n * n) × (0 < k) × (k + 2 < n) ⌝ }
+    requires { ⌜ Reaches n (k + 2) (now t) × (0 < k) ⌝ }
     ensures { λ r. ⌜ r ≡ bulge n k (now (t .entry)) ⌝ }
 {
     let m = k - 1;
@@ -55,7 +55,7 @@ fn bulge3(t: &[f64], n: usize, k: usize) -> Vector3
 }
 
 fn bulge2(t: &[f64], n: usize, k: usize) -> Vector2
-    requires { ⌜ (n ≤ 64) × (length (now t) ≡ n * n) × (0 < k) × (k + 1 < n) ⌝ }
+    requires { ⌜ Reaches n (k + 1) (now t) × (0 < k) ⌝ }
     ensures { λ r. ⌜ r ≡ bulgeEnd n k (now (t .entry)) ⌝ }
 {
     let m = k - 1;
@@ -67,7 +67,7 @@ fn bulge2(t: &[f64], n: usize, k: usize) -> Vector2
 
 // What the reflection makes of column k - 1, past the first step: the norm in row k, +0 in the next rows.
 fn sweep3(t: &mut [f64], n: usize, start: usize, k: usize, norm: f64)
-    requires { ⌜ (n ≤ 64) × (length (now t) ≡ n * n) × (k + 2 < n) ⌝ }
+    requires { ⌜ Reaches n (k + 2) (now t) ⌝ }
     ensures { λ _. ⌜ now (t .exit) ≡ sweptPast n start k 3 norm (now (t .entry)) ⌝ }
 {
     if k <= start {
@@ -80,7 +80,7 @@ fn sweep3(t: &mut [f64], n: usize, start: usize, k: usize, norm: f64)
 }
 
 fn sweep2(t: &mut [f64], n: usize, start: usize, k: usize, norm: f64)
-    requires { ⌜ (n ≤ 64) × (length (now t) ≡ n * n) × (k + 1 < n) ⌝ }
+    requires { ⌜ Reaches n (k + 1) (now t) ⌝ }
     ensures { λ _. ⌜ now (t .exit) ≡ sweptPast n start k 2 norm (now (t .entry)) ⌝ }
 {
     if k <= start {
@@ -94,7 +94,7 @@ fn sweep2(t: &mut [f64], n: usize, start: usize, k: usize, norm: f64)
 // Both sides of T by the axis a from row and column k on, its columns in the first `rows` rows. Columns k to k + 2
 // come first: `reflect_rows3`, and so the next step's axis, needs no others. Those right of them come last.
 fn both_sides3(a: Vector3, t: &mut [f64], n: usize, k: usize, rows: usize)
-    requires { ⌜ (n ≤ 64) × (length (now t) ≡ n * n) × (k + 2 < n) × (rows ≤ n) ⌝ }
+    requires { ⌜ Reaches n (k + 2) (now t) × (rows ≤ n) ⌝ }
     ensures { λ _. ⌜ now (t .exit)
         ≡ reflectedRows (list3 a) one n rows k (reflected bare (list3 a) one n k k n (now (t .entry))) ⌝ }
 {
@@ -106,8 +106,7 @@ fn both_sides3(a: Vector3, t: &mut [f64], n: usize, k: usize, rows: usize)
 
 // The same; and Q.
 fn reflect_at3(a: Vector3, t: &mut [f64], q: &mut [f64], asked: Setting, k: usize, rows: usize)
-    requires { ⌜ (asked .order ≤ 64) × (length (now t) ≡ asked .order * asked .order) × (k + 2 < asked .order)
-        × (rows ≤ asked .order) ⌝ }
+    requires { ⌜ Reaches (asked .order) (k + 2) (now t) × (rows ≤ asked .order) ⌝ }
     ensures { λ _. ⌜ pair (now (t .exit)) (now (q .exit))
         ≡ reflectedAt asked k rows (list3 a) (pair (now (t .entry)) (now (q .entry))) ⌝ }
 {
@@ -142,8 +141,7 @@ fn rows_at(k: usize, end: usize) -> usize
 
 // The step at k by the column, in a pass over the window w.
 fn step3(column: Vector3, t: &mut [f64], q: &mut [f64], asked: Setting, w: Window, k: usize)
-    requires { ⌜ (asked .order ≤ 64) × (length (now t) ≡ asked .order * asked .order) × (k + 2 < asked .order)
-        × (w .end < asked .order) ⌝ }
+    requires { ⌜ Reaches (asked .order) (k + 2) (now t) × (w .end < asked .order) ⌝ }
     ensures { λ _. ⌜ pair (now (t .exit)) (now (q .exit))
         ≡ stepAt asked w k (list3 column) (pair (now (t .entry)) (now (q .entry))) ⌝ }
 {
@@ -156,8 +154,7 @@ fn step3(column: Vector3, t: &mut [f64], q: &mut [f64], asked: Setting, w: Windo
 }
 
 fn step2(column: Vector2, t: &mut [f64], q: &mut [f64], asked: Setting, w: Window, k: usize)
-    requires { ⌜ (asked .order ≤ 64) × (length (now t) ≡ asked .order * asked .order) × (k + 1 < asked .order)
-        × (w .end < asked .order) ⌝ }
+    requires { ⌜ Reaches (asked .order) (k + 1) (now t) × (w .end < asked .order) ⌝ }
     ensures { λ _. ⌜ pair (now (t .exit)) (now (q .exit))
         ≡ stepAt asked w k (list2 column) (pair (now (t .entry)) (now (q .entry))) ⌝ }
 {
@@ -171,7 +168,7 @@ fn step2(column: Vector2, t: &mut [f64], q: &mut [f64], asked: Setting, w: Windo
 
 // The column of the step at k: at the start the first column, past it the bulge.
 fn column_at(first: Vector3, t: &[f64], n: usize, start: usize, k: usize) -> Vector3
-    requires { ⌜ (n ≤ 64) × (length (now t) ≡ n * n) × (k + 2 < n) ⌝ }
+    requires { ⌜ Reaches n (k + 2) (now t) ⌝ }
     ensures { λ r. ⌜ r ≡ columnAt n start k first (now (t .entry)) ⌝ }
 {
     if k <= start {
@@ -182,8 +179,7 @@ fn column_at(first: Vector3, t: &[f64], n: usize, start: usize, k: usize) -> Vec
 
 // The step at k by three numbers.
 fn chase(first: Vector3, t: &mut [f64], q: &mut [f64], asked: Setting, w: Window, k: usize)
-    requires { ⌜ (asked .order ≤ 64) × (length (now t) ≡ asked .order * asked .order) × (k + 1 < w .end)
-        × (w .end < asked .order) ⌝ }
+    requires { ⌜ Reaches (asked .order) (w .end) (now t) × (k + 1 < w .end) ⌝ }
     ensures { λ _. ⌜ pair (now (t .exit)) (now (q .exit))
         ≡ chased asked w first k (pair (now (t .entry)) (now (q .entry))) ⌝ }
 {
@@ -193,8 +189,7 @@ fn chase(first: Vector3, t: &mut [f64], q: &mut [f64], asked: Setting, w: Window
 
 // The last step, by two.
 fn close(t: &mut [f64], q: &mut [f64], asked: Setting, w: Window)
-    requires { ⌜ (asked .order ≤ 64) × (length (now t) ≡ asked .order * asked .order) × (w .start + 2 ≤ w .end)
-        × (w .end < asked .order) ⌝ }
+    requires { ⌜ Reaches (asked .order) (w .end) (now t) × (w .start + 2 ≤ w .end) ⌝ }
     ensures { λ _. ⌜ pair (now (t .exit)) (now (q .exit)) ≡ closing asked w (pair (now (t .entry)) (now (q .entry))) ⌝ }
 {
     let k = w.end - 1;
@@ -204,9 +199,8 @@ fn close(t: &mut [f64], q: &mut [f64], asked: Setting, w: Window)
 
 // Every step of the pass.
 fn shift_here(t: &mut [f64], q: &mut [f64], asked: Setting, w: Window)
-    requires { ⌜ (asked .order ≤ 64) × (length (now t) ≡ asked .order * asked .order) × (w .start + 2 ≤ w .end)
-        × (w .end < asked .order) ⌝ }
-    ensures { λ _. ⌜ (pair (now (t .exit)) (now (q .exit)))
+    requires { ⌜ Reaches (asked .order) (w .end) (now t) × (w .start + 2 ≤ w .end) ⌝ }
+    ensures { λ _. ⌜ pair (now (t .exit)) (now (q .exit))
         ≡ passHere asked w (pair (now (t .entry)) (now (q .entry))) ⌝ }
 {
     let start = w.start;

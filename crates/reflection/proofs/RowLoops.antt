@@ -1,4 +1,4 @@
--- What holds at the head of each turn of a loop over the columns of some rows: begun, one turn more, done. Assumes nothing.
+-- What holds at the head of each turn of a loop over the columns of some rows, and of one over rows: begun, one turn more, done. Assumes nothing.
 use Prim.Native.Nat.{ℕ, _+_, _*_, _≤_, _<_}
 use mathlib.Core.Path.{_≡_, sym, ap, _∙_}
 use mathlib.Core.List.{List}
@@ -7,8 +7,10 @@ use native.Mathlib.Omega.{arith}
 use lib.ListN.{length}
 use lib.Ieee.{Float}
 use Rattle.matrix.specs.Entries.{inBlock}
-use Rattle.matrix.proofs.Blocks.{inBlock-no-columns, inBlock-columns-done}
+use Rattle.matrix.proofs.Blocks.{inBlock-no-rows, inBlock-no-columns, inBlock-columns-done}
 use Rattle.reflection.specs.Reflected.{mirroredRows}
+use Rattle.reflection.specs.Inner.{RowsFit}
+use Rattle.reflection.proofs.RowTurn.{rows-more}
 
 -- ---- the sums of some rows: w is what the first j columns of the axis a give, f j
 
@@ -49,3 +51,29 @@ putting-more inv h l turn = record { whole = inv .whole; within = omega arith; s
 pub putting-done : {a : List Float} {s : Float} {n i k c0 : ℕ} {t₀ : List Float} {end j : ℕ} {t : List Float} → Putting a s n i k c0 t₀ end j t → end ≤ j
     → t ≡ inBlock n i k c0 (c0 + length a) (mirroredRows a s n c0 t₀) t₀
 putting-done {c0 = c0} inv h = inv .done ∙ inBlock-columns-done _ _ _ c0 _ _ _ _ (omega arith) (omega arith) (omega arith)
+
+-- ---- rows taken in portions, from r0 to below r1: those to below k are what the rule says
+
+pub record Taking (a : List Float) (s : Float) (n r0 r1 c0 : ℕ) (t₀ : List Float) (k : ℕ) (t : List Float) : Type 0 where
+  pub from : r0 ≤ k
+  pub within : k ≤ r1
+  pub size : length t ≡ n * n
+  pub done : t ≡ inBlock n r0 k c0 (c0 + length a) (mirroredRows a s n c0 t₀) t₀
+
+module _ {a : List Float} {s : Float} {n r0 r1 c0 : ℕ} {t₀ : List Float} (fits : RowsFit n r1 c0 a t₀) where
+  pub taking-begun : r0 ≤ r1 → Taking a s n r0 r1 c0 t₀ r0 t₀
+  taking-begun h =
+      record { from = omega arith; within = h; size = fits .size; done = sym (inBlock-no-rows n _ t₀ (fits .size) r0 c0 _ (omega arith) (fits .inCols)) }
+
+  pub taking-more : {k l : ℕ} {t u : List Float} → Taking a s n r0 r1 c0 t₀ k t → k ≤ l → l ≤ r1 → length u ≡ n * n
+      → u ≡ inBlock n k l c0 (c0 + length a) (mirroredRows a s n c0 t) t → Taking a s n r0 r1 c0 t₀ l u
+  taking-more {k} {l} {t} inv h m size put = record {
+    from = omega arith;
+    within = m;
+    size = size;
+    done = put ∙ rows-more a s n r0 k l c0 t₀ t (fits .size) (inv .from) h (omega arith) (fits .inCols) (inv .done);
+  }
+
+pub taking-done : {a : List Float} {s : Float} {n r0 r1 c0 : ℕ} {t₀ : List Float} {k : ℕ} {t : List Float} → Taking a s n r0 r1 c0 t₀ k t → r1 ≤ k
+    → t ≡ inBlock n r0 r1 c0 (c0 + length a) (mirroredRows a s n c0 t₀) t₀
+taking-done {r1 = r1} {k = k} inv h = let e : k ≡ r1 = omega arith in rw e at (inv .done)

@@ -1,6 +1,7 @@
 -- What the private functions of the kernels do. Nothing here need be believed: the public contracts cite `Reflected`
 -- alone.
-use Prim.Native.Nat.{ℕ, _+_}
+use Prim.Native.Nat.{ℕ, _+_, _*_, _<_, _≤_}
+use mathlib.Core.Path.{_≡_}
 use mathlib.Core.List.{List}
 use lib.ListN.{length, set}
 use lib.Ieee.{Float}
@@ -9,6 +10,20 @@ use Rattle.loops.specs.Times.{times}
 use Rattle.matrix.specs.Product.{along}
 use Rattle.reflection.specs.declared.rows.Four.{Four}
 use Rattle.reflection.specs.declared.rows.Eight.{Eight}
+
+-- r is the place of row i of column j in a matrix of order n, and so many `rows` from there on lie in the column
+pub record PlaceOf (n i j rows r : ℕ) : Type 0 where
+  pub is : r ≡ j * n + i
+  pub inside : j * n + i + rows ≤ n * n
+  pub small : n * n ≤ 4096
+
+-- the first `rows` rows, and as many columns from c0 on as a is long, lie in the matrix t of order n; a is not empty
+pub record RowsFit (n rows c0 : ℕ) (a t : List Float) : Type 0 where
+  pub order : n ≤ 64
+  pub size : length t ≡ n * n
+  pub inRows : rows ≤ n
+  pub inCols : c0 + length a ≤ n
+  pub some : 0 < length a
 
 -- the numbers of t from o on, as many as a is long: f times that of a, plus s times what stands
 unfoldable pub axpyOf : Float → List Float → Float → ℕ → List Float → List Float

@@ -2,14 +2,14 @@
 // in registers, then four where as many are left, then the rest one by one. Every entry's operations are in
 // the Rust's order, and no work vector is needed.
 ghost use mathlib.Core.Path.{_≡_};
-ghost use Prim.Native.Nat.{_+_, _*_, _<_, _≤_};
+ghost use Prim.Native.Nat.{_+_, _*_, _≤_};
 ghost use lib.ListN.{length};
 ghost use Rattle.loops.specs.Constants.{one};
 ghost use Rattle.matrix.specs.Entries.{inBlock};
 ghost use Rattle.matrix.specs.Product.{along};
 ghost use Rattle.reflection.specs.Reflected.{mirroredRows, reflectedRows};
-ghost use Rattle.reflection.specs.Inner.{fourTimes, fourPlus, fourPut, fourAlong, eightTimes, eightPlus};
-ghost use Rattle.reflection.specs.Inner.{eightPut, eightAlong};
+ghost use Rattle.reflection.specs.Inner.{RowsFit, fourTimes, fourPlus, fourPut, fourAlong};
+ghost use Rattle.reflection.specs.Inner.{eightTimes, eightPlus, eightPut, eightAlong};
 
 // The sums of four rows.
 struct Four {
@@ -47,7 +47,7 @@ fn plus_four(t: &[f64], p: usize, x: f64, w: Four) -> Four
 
 // The rows from i to i + 3, in the columns from c0 on, times a.
 fn sums_of_four(a: &[f64], t: &[f64], n: usize, i: usize, c0: usize) -> Four
-    requires { ⌜ (n ≤ 64) × (length (now t) ≡ n * n) × (i + 4 ≤ n) × (c0 + length (now a) ≤ n) × (0 < length (now a)) ⌝ }
+    requires { ⌜ RowsFit n (i + 4) c0 (now a) (now t) ⌝ }
     ensures { λ r. ⌜ r ≡ fourAlong (now (a .entry)) n c0 (now (t .entry)) i ⌝ }
 {
     let o = crate::place::first_of(n, i, c0, 4);
@@ -91,7 +91,7 @@ fn plus_eight(t: &[f64], p: usize, x: f64, w: Eight) -> Eight
 
 // The rows from i to i + 7, in the columns from c0 on, times a.
 fn sums_of_eight(a: &[f64], t: &[f64], n: usize, i: usize, c0: usize) -> Eight
-    requires { ⌜ (n ≤ 64) × (length (now t) ≡ n * n) × (i + 8 ≤ n) × (c0 + length (now a) ≤ n) × (0 < length (now a)) ⌝ }
+    requires { ⌜ RowsFit n (i + 8) c0 (now a) (now t) ⌝ }
     ensures { λ r. ⌜ r ≡ eightAlong (now (a .entry)) n c0 (now (t .entry)) i ⌝ }
 {
     let o = crate::place::first_of(n, i, c0, 8);
@@ -120,7 +120,7 @@ fn put_four(t: &mut [f64], p: usize, factor: f64, w: Four, sign: f64)
 
 // The rows from i to i + 3.
 fn four_rows(a: &[f64], t: &mut [f64], n: usize, i: usize, c0: usize, sign: f64)
-    requires { ⌜ (n ≤ 64) × (length (now t) ≡ n * n) × (i + 4 ≤ n) × (c0 + length (now a) ≤ n) × (0 < length (now a)) ⌝ }
+    requires { ⌜ RowsFit n (i + 4) c0 (now a) (now t) ⌝ }
     ensures { λ _.
         ⌜ now (t .exit) ≡ inBlock n i (i + 4) c0 (c0 + length (now (a .entry)))
         (mirroredRows (now (a .entry)) sign n c0 (now (t .entry))) (now (t .entry)) ⌝ }
@@ -146,7 +146,7 @@ fn put_eight(t: &mut [f64], p: usize, factor: f64, w: Eight, sign: f64)
 
 // The rows from i to i + 7.
 fn eight_rows(a: &[f64], t: &mut [f64], n: usize, i: usize, c0: usize, sign: f64)
-    requires { ⌜ (n ≤ 64) × (length (now t) ≡ n * n) × (i + 8 ≤ n) × (c0 + length (now a) ≤ n) × (0 < length (now a)) ⌝ }
+    requires { ⌜ RowsFit n (i + 8) c0 (now a) (now t) ⌝ }
     ensures { λ _.
         ⌜ now (t .exit) ≡ inBlock n i (i + 8) c0 (c0 + length (now (a .entry)))
         (mirroredRows (now (a .entry)) sign n c0 (now (t .entry))) (now (t .entry)) ⌝ }
@@ -161,7 +161,7 @@ fn eight_rows(a: &[f64], t: &mut [f64], n: usize, i: usize, c0: usize, sign: f64
 
 // Row i, in the columns from c0 on, times a.
 fn sum(a: &[f64], t: &[f64], n: usize, i: usize, c0: usize) -> f64
-    requires { ⌜ (n ≤ 64) × (length (now t) ≡ n * n) × (i < n) × (c0 + length (now a) ≤ n) × (0 < length (now a)) ⌝ }
+    requires { ⌜ RowsFit n (i + 1) c0 (now a) (now t) ⌝ }
     ensures { λ r. ⌜ r ≡ along (now (a .entry)) n c0 (now (t .entry)) i ⌝ }
 {
     let o = crate::place::at(n, i, c0);
@@ -175,7 +175,7 @@ fn sum(a: &[f64], t: &[f64], n: usize, i: usize, c0: usize) -> f64
 
 // Row i.
 fn one_row(a: &[f64], t: &mut [f64], n: usize, i: usize, c0: usize, sign: f64)
-    requires { ⌜ (n ≤ 64) × (length (now t) ≡ n * n) × (i < n) × (c0 + length (now a) ≤ n) × (0 < length (now a)) ⌝ }
+    requires { ⌜ RowsFit n (i + 1) c0 (now a) (now t) ⌝ }
     ensures { λ _.
         ⌜ now (t .exit) ≡ inBlock n i (i + 1) c0 (c0 + length (now (a .entry)))
         (mirroredRows (now (a .entry)) sign n c0 (now (t .entry))) (now (t .entry)) ⌝ }
@@ -190,8 +190,7 @@ fn one_row(a: &[f64], t: &mut [f64], n: usize, i: usize, c0: usize, sign: f64)
 
 // Eight rows at a time, as many times as `eights` says.
 fn rows_by_eight(a: &[f64], t: &mut [f64], n: usize, eights: usize, c0: usize, sign: f64)
-    requires { ⌜ (n ≤ 64) × (length (now t) ≡ n * n) × (eights * 8 ≤ n) × (c0 + length (now a) ≤ n)
-        × (0 < length (now a)) ⌝ }
+    requires { ⌜ RowsFit n (eights * 8) c0 (now a) (now t) ⌝ }
     ensures { λ _.
         ⌜ now (t .exit) ≡ inBlock n 0 (eights * 8) c0 (c0 + length (now (a .entry)))
         (mirroredRows (now (a .entry)) sign n c0 (now (t .entry))) (now (t .entry)) ⌝ }
@@ -203,8 +202,7 @@ fn rows_by_eight(a: &[f64], t: &mut [f64], n: usize, eights: usize, c0: usize, s
 
 // The rows from `from` to below `to`, one by one.
 fn rows_by_one(a: &[f64], t: &mut [f64], n: usize, from: usize, to: usize, c0: usize, sign: f64)
-    requires { ⌜ (n ≤ 64) × (length (now t) ≡ n * n) × (from ≤ to) × (to ≤ n) × (c0 + length (now a) ≤ n)
-        × (0 < length (now a)) ⌝ }
+    requires { ⌜ RowsFit n to c0 (now a) (now t) × (from ≤ to) ⌝ }
     ensures { λ _.
         ⌜ now (t .exit) ≡ inBlock n from to c0 (c0 + length (now (a .entry)))
         (mirroredRows (now (a .entry)) sign n c0 (now (t .entry))) (now (t .entry)) ⌝ }
@@ -216,8 +214,7 @@ fn rows_by_one(a: &[f64], t: &mut [f64], n: usize, from: usize, to: usize, c0: u
 
 // The same, four at once where as many are left.
 fn rows_left(a: &[f64], t: &mut [f64], n: usize, from: usize, to: usize, c0: usize, sign: f64)
-    requires { ⌜ (n ≤ 64) × (length (now t) ≡ n * n) × (from ≤ to) × (to ≤ n) × (c0 + length (now a) ≤ n)
-        × (0 < length (now a)) ⌝ }
+    requires { ⌜ RowsFit n to c0 (now a) (now t) × (from ≤ to) ⌝ }
     ensures { λ _.
         ⌜ now (t .exit) ≡ inBlock n from to c0 (c0 + length (now (a .entry)))
         (mirroredRows (now (a .entry)) sign n c0 (now (t .entry))) (now (t .entry)) ⌝ }

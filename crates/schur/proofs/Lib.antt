@@ -4,3 +4,4 @@ pub mod Independent
 pub mod Counting
 pub mod Lengths
 mod RunAnswers
+mod CountedTurn

@@ -1,16 +1,14 @@
 // The run: opened, then turn after turn until the window has closed or the counted passes have reached the
 // budget. T is t, Q is q; q is rewritten only where it is wanted.
 ghost use mathlib.Core.Path.{_≡_};
-ghost use mathlib.Core.List.{List};
-ghost use lib.ListN.{length};
-ghost use lib.Ieee.{Float};
-ghost use Prim.Native.Nat.{_+_, _*_, _<_, _≤_};
+ghost use Prim.Native.Nat.{_+_, _<_, _≤_};
 ghost use Rattle.loops.specs.Constants.{one};
 ghost use Rattle.matrix.specs.Vectors.{largest, filled};
 ghost use Rattle.hessenberg.specs.Unpacked.{unpackedQ};
 ghost use Rattle.pass.specs.Pair.{pair, onQ};
-ghost use Rattle.schur.specs.Run.{running, after, turnTwo, turnMore, turnOf, runFrom, scaledDown, reducedPair};
+ghost use Rattle.schur.specs.Run.{running, turnTwo, turnMore, turnOf, runFrom, scaledDown, reducedPair};
 ghost use Rattle.schur.specs.Run.{opened, left, answered, runFits, ranOf, runOf, workAfter};
+ghost use Rattle.schur.specs.Inner.{Square, Turnable, Turned, Counted, Begun};
 use pass::Setting;
 use window::Window;
 use window::delimit_subproblem;
@@ -33,9 +31,7 @@ impl State {
     // A pass has been made: T is delimited from `end`, and the pass counts.
     fn after(self, t: &mut [f64], asked: Setting, end: usize) -> State
         requires { ⌜ self .passes < 18446744073709551615 ⌝ }
-        ensures { λ r. ⌜ ((q : List Float) → running r (pair (now (t .exit)) q)
-            ≡ after asked end self (pair (now (t .entry)) q)) ⌝ }
-        ensures { λ r. ⌜ (r .window .end ≤ end) × (r .window .start ≤ r .window .end) × (r .passes ≡ self .passes + 1) ⌝ }
+        ensures { λ r. ⌜ Counted asked end self (now (t .entry)) r (now (t .exit)) ⌝ }
     {
         let window = delimit_subproblem(t, asked.order, asked.tolerance, end);
         State {
@@ -46,13 +42,9 @@ impl State {
 
     // A window of two. After the one at the beginning of the matrix the run ends, and that is not counted.
     fn turn_two(self, t: &mut [f64], q: &mut [f64], asked: Setting) -> State
-        requires { ⌜ (asked .order ≤ 64) × (length (now t) ≡ asked .order * asked .order)
-            × (self .window .start + 1 ≡ self .window .end)
-            × (self .window .end < asked .order) × (self .passes < 18446744073709551615) ⌝ }
-        ensures { λ r. ⌜ running r (pair (now (t .exit)) (now (q .exit)))
-            ≡ turnTwo asked self (pair (now (t .entry)) (now (q .entry))) ⌝ }
-        ensures { λ r. ⌜ (r .window .end < asked .order) × (r .window .start ≤ r .window .end)
-            × (r .passes ≤ self .passes + 1) ⌝ }
+        requires { ⌜ Turnable asked 1 (now t) self × (self .window .start + 1 ≡ self .window .end) ⌝ }
+        ensures { λ r. ⌜ Turned asked self (turnTwo asked self (pair (now (t .entry)) (now (q .entry)))) r
+            (pair (now (t .exit)) (now (q .exit))) ⌝ }
     {
         let start = self.window.start;
         let end = self.window.end;
@@ -68,13 +60,9 @@ impl State {
 
     // A window of three or more.
     fn turn_more(self, t: &mut [f64], q: &mut [f64], asked: Setting) -> State
-        requires { ⌜ (asked .order ≤ 64) × (length (now t) ≡ asked .order * asked .order)
-            × (self .window .start + 2 ≤ self .window .end)
-            × (self .window .end < asked .order) × (self .passes < 18446744073709551615) ⌝ }
-        ensures { λ r. ⌜ running r (pair (now (t .exit)) (now (q .exit)))
-            ≡ turnMore asked self (pair (now (t .entry)) (now (q .entry))) ⌝ }
-        ensures { λ r. ⌜ (r .window .end < asked .order) × (r .window .start ≤ r .window .end)
-            × (r .passes ≤ self .passes + 1) ⌝ }
+        requires { ⌜ Turnable asked 1 (now t) self × (self .window .start + 2 ≤ self .window .end) ⌝ }
+        ensures { λ r. ⌜ Turned asked self (turnMore asked self (pair (now (t .entry)) (now (q .entry)))) r
+            (pair (now (t .exit)) (now (q .exit))) ⌝ }
     {
         let window = self.window;
         pass::double_shift(t, q, asked, window);
@@ -83,13 +71,9 @@ impl State {
 
     // One turn over an open window.
     fn turn(self, t: &mut [f64], q: &mut [f64], asked: Setting) -> State
-        requires { ⌜ (asked .order ≤ 64) × (length (now t) ≡ asked .order * asked .order)
-            × (self .window .start < self .window .end)
-            × (self .window .end < asked .order) × (self .passes < 18446744073709551615) ⌝ }
-        ensures { λ r. ⌜ running r (pair (now (t .exit)) (now (q .exit)))
-            ≡ turnOf asked (running self (pair (now (t .entry)) (now (q .entry)))) ⌝ }
-        ensures { λ r. ⌜ (r .window .end < asked .order) × (r .window .start ≤ r .window .end)
-            × (r .passes ≤ self .passes + 1) ⌝ }
+        requires { ⌜ Turnable asked 1 (now t) self × (self .window .start < self .window .end) ⌝ }
+        ensures { λ r. ⌜ Turned asked self (turnOf asked (running self (pair (now (t .entry)) (now (q .entry))))) r
+            (pair (now (t .exit)) (now (q .exit))) ⌝ }
     {
         if self.window.end <= self.window.start + 1 {
             return self.turn_two(t, q, asked);
@@ -99,9 +83,7 @@ impl State {
 
     // Turn after turn, at most `budget` of them.
     fn run_from(self, t: &mut [f64], q: &mut [f64], asked: Setting, budget: u64) -> State
-        requires { ⌜ (asked .order ≤ 64) × (length (now t) ≡ asked .order * asked .order)
-            × (self .window .start ≤ self .window .end)
-            × (self .window .end < asked .order) × (self .passes + budget ≤ 18446744073709551615) ⌝ }
+        requires { ⌜ Turnable asked budget (now t) self ⌝ }
         ensures { λ r. ⌜ running r (pair (now (t .exit)) (now (q .exit)))
             ≡ runFrom asked budget (running self (pair (now (t .entry)) (now (q .entry)))) ⌝ }
     {
@@ -157,12 +139,9 @@ struct Opening {
 }
 
 fn begin(t: &mut [f64], q: &mut [f64], asked: Setting, work: &mut [f64]) -> Opening
-    requires { ⌜ (asked .order ≤ 64) × (3 ≤ asked .order) × (length (now t) ≡ asked .order * asked .order) ⌝ }
-    ensures { λ r. ⌜ (running (r .state) (pair (now (t .exit)) (now (q .exit)))
-        ≡ opened asked (pair (now (t .entry)) (now (q .entry))) (now (work .entry)))
-        × (r .amax ≡ largest (now (t .entry))) ⌝ }
-    ensures { λ r. ⌜ (r .state .window .end < asked .order) × (r .state .window .start ≤ r .state .window .end)
-        × (r .state .passes ≡ 0) ⌝ }
+    requires { ⌜ Square asked (now t) × (3 ≤ asked .order) ⌝ }
+    ensures { λ r. ⌜ Begun asked (pair (now (t .entry)) (now (q .entry))) (now (work .entry)) r
+        (pair (now (t .exit)) (now (q .exit))) ⌝ }
 {
     let amax = scale_down(t);
     unpack(t, q, asked, work);
@@ -175,7 +154,7 @@ fn begin(t: &mut [f64], q: &mut [f64], asked: Setting, work: &mut [f64]) -> Open
 
 // Order 3 and up.
 fn run_large(t: &mut [f64], q: &mut [f64], asked: Setting, budget: u64, work: &mut [f64]) -> Ran
-    requires { ⌜ (asked .order ≤ 64) × (3 ≤ asked .order) × (length (now t) ≡ asked .order * asked .order) ⌝ }
+    requires { ⌜ Square asked (now t) × (3 ≤ asked .order) ⌝ }
     ensures { λ r. ⌜ left r (pair (now (t .exit)) (now (q .exit)))
         ≡ answered budget (largest (now (t .entry)))
         (runFrom asked budget (opened asked (pair (now (t .entry)) (now (q .entry))) (now (work .entry)))) ⌝ }
@@ -202,7 +181,7 @@ fn one_in_q(q: &mut [f64], wanted: bool)
 
 // Every order.
 fn run_fitting(t: &mut [f64], q: &mut [f64], asked: Setting, budget: u64, work: &mut [f64]) -> Ran
-    requires { ⌜ (asked .order ≤ 64) × (1 ≤ asked .order) × (length (now t) ≡ asked .order * asked .order) ⌝ }
+    requires { ⌜ Square asked (now t) × (1 ≤ asked .order) ⌝ }
     ensures { λ r. ⌜ left r (pair (now (t .exit)) (now (q .exit)))
         ≡ ranOf asked budget (pair (now (t .entry)) (now (q .entry))) (now (work .entry)) ⌝ }
 {

@@ -1,21 +1,29 @@
 -- `hessenberg::new_with_workspace` meets its contract. Assumes nothing.
 use mathlib.Core.Path.{_≡_, sym, _∙_}
-use Prim.Native.Nat.{_+_, _*_, _-_, _≤_}
+use Prim.Native.Nat.{ℕ, _+_, _*_, _-_, _≤_}
 use native.Mathlib.Omega.{arith}
 use borrow.Author.Tests.{eqb-true}
 use lib.ListN.{length}
 use Rattle.loops.specs.Times.{times, times-none, times-more, times-done}
 use Rattle.matrix.specs.Fits.{blockFits}
 use Rattle.matrix.proofs.Fitting.{Fits, within, inside, outside, from-row-0, from-column-0}
-use Rattle.hessenberg.specs.Reduced.{reduction, reduceColumn, workFits, reduced}
+use Rattle.hessenberg.specs.Reduced.{Reduction, reduction, reduceColumn, workFits, reduced}
 use Rattle.hessenberg.proofs.Empty.{reduced-empty}
 use Rattle.hessenberg.proofs.new_with_workspace.Statement.{statement}
 use Rattle.hessenberg.proofs.new_with_workspace.Tie as tie
 
+-- the first k columns have been reduced
+record Reducing (n : ℕ) (r₀ : Reduction) (k-end k : ℕ) (r : Reduction) : Type 0 where
+  order : n ≤ 64
+  last : k-end + 1 ≡ n
+  within : k ≤ k-end
+  size : length (r .matrix) ≡ length (r₀ .matrix)
+  room : length (r .work) ≡ 2 * n
+  room₀ : length (r₀ .work) ≡ 2 * n
+  done : r ≡ times (reduceColumn n) k r₀
+
 abbrev Inv-loop : tie.InvT-loop
-Inv-loop hess₀ n work₀ k₀ k-end hess work k = (n ≤ 64) × (k-end + 1 ≡ n) × (k ≤ k-end)
-    × (length hess ≡ length hess₀) × (length work ≡ 2 * n) × (length work₀ ≡ 2 * n)
-    × (reduction hess work ≡ times (reduceColumn n) k (reduction hess₀ work₀))
+Inv-loop hess₀ n work₀ k₀ k-end hess work k = Reducing n (reduction hess₀ work₀) k-end k (reduction hess work)
 
 abbrev μ-loop : tie.MeasureT-loop
 μ-loop hess₀ n work₀ k₀ k-end hess work k = k-end - k
@@ -43,21 +51,37 @@ loop-holds : tie.Need-loop-holds Inv-loop μ-loop
 loop-holds c =
     let f = fitted (search) in
     let r = room (c .before) in
-    (omega arith, omega arith, omega arith, omega arith, omega arith, omega arith, sym (times-none _ _))
+    record {
+      order = f .order;
+      last = omega arith;
+      within = omega arith;
+      size = omega arith;
+      room = r;
+      room₀ = r;
+      done = sym (times-none _ _);
+    }
 
 loop-again : tie.Need-loop-again Inv-loop μ-loop
 loop-again c =
     let at-loop : tie.At-loop Inv-loop μ-loop = search in
     let inv = at-loop .loop .inv in
     let turn = c .before .before .before .before .reduce-column .ensures in
-    (omega arith, omega arith, omega arith, omega arith, omega arith, omega arith, rw (times-more, ← inv .6) turn)
+    record {
+      order = inv .order;
+      last = inv .last;
+      within = omega arith;
+      size = omega arith;
+      room = omega arith;
+      room₀ = inv .room₀;
+      done = rw (times-more, ← inv .done) turn;
+    }
 
 returns-4 : tie.Need-returns-4 Inv-loop μ-loop
 unfolding reduced workFits
 returns-4 c =
     let e : tie.Else2 Inv-loop μ-loop = search in
     rw (inside (first (search)) (e .before .before .if1 .left), inside (e .before .work-fits .ensures) (e .if2 .left))
-    (c .before .loop .inv .6 ∙ times-done _ _ _ _ (omega arith) (omega arith))
+    (c .before .loop .inv .done ∙ times-done _ _ _ _ (omega arith) (omega arith))
 
 pub new-with-workspace-spec : {M : Type 1} → statement M
 new-with-workspace-spec = tie.close (tie.spec Inv-loop μ-loop

@@ -9,13 +9,13 @@ middle-requires : tie.Need-middle-requires
 middle-requires c κs =
     let start : tie.Start = search in
     let here : tie.Then1 = search in
-    (here .if1 .taken, mul-le-mul (here .if1 .taken) (here .if1 .taken), start .pre)
+    record { order = here .if1 .taken; square = mul-le-mul (here .if1 .taken) (here .if1 .taken); passed = start .pre }
 
 large-requires : tie.Need-large-requires
 large-requires c κs =
     let start : tie.Start = search in
     let fit = list-fit (start .args .c .entry) (start .args .c .order) (start .args .m .now) _ _ (start .pre) in
-    (fit .order, fit .small, start .pre)
+    record { order = fit .order; square = fit .small; passed = start .pre }
 
 pub larger-spec : {M : Type 1} → statement M
 larger-spec = tie.close (tie.spec

@@ -18,12 +18,12 @@ use Rattle.door.proofs.lists.on_floats.Statement.{statement}
 use Rattle.door.proofs.lists.on_floats.Tie as tie
 
 fit : (c : tie.Start) → let x = c .args in ListFit (x .c .entry) (x .c .order) (length (x .m .now)) (length (x .re .now)) (length (x .im .now))
-fit c = list-fit _ _ (c .args .m .now) _ _ (c .pre .0)
+fit c = list-fit _ _ (c .args .m .now) _ _ (c .pre .passed)
 
 write-list-requires : tie.Need-write-list-requires
 write-list-requires c κs =
     let first : tie.Start = search in
-    omega (arith, fit first .list, first .pre .2)
+    omega (arith, fit first .list)
 
 -- the complex reader's second list, whose room has n numbers
 pair-sized : {e : ListEntry} (n jn : ℕ) (y : List Float) → e ≡ Complex → secondLength e n jn ≡ Passed → y ≡ zeros (secondSize e n) → jn ≡ 8 * length y
@@ -35,7 +35,7 @@ pair-sized n jn y h lent zero =
 write-second-requires : tie.Need-write-second-requires
 write-second-requires c κs =
     let first : tie.Start = search in
-    λ e. omega (arith, pair-sized (first .args .c .order) _ (first .args .y .now) e (fit first .second) (first .pre .3))
+    λ e. omega (arith, pair-sized (first .args .c .order) _ (first .args .y .now) e (fit first .second) (first .pre .second))
 
 returns : tie.Need-returns
 returns c =
@@ -46,8 +46,8 @@ returns c =
     let listed : tie.After-write-list = search in
     let x = start .args in
     let pre = start .pre in
-    let floats = decoded (x .m .now) (x .a .now) _ (fit start .matrix) (pre .1) (after-decode .decode .ensures) in
-    list-read (x .c .entry) (x .c .order) (x .m .now) (x .re .now) (x .im .now) _ _ (x .x .now) _ (x .y .now) _ _ _ (pre .0) (pre .2) (pre .3)
+    let floats = decoded (x .m .now) (x .a .now) _ (fit start .matrix) (pre .matrix) (after-decode .decode .ensures) in
+    list-read (x .c .entry) (x .c .order) (x .m .now) (x .re .now) (x .im .now) _ _ (x .x .now) _ (x .y .now) _ _ _ (pre .passed) (pre .list) (pre .second)
     (after-evaluate .evaluate .ensures ∙ ap (λ a. evaluatedBy (x .c .entry) (x .c .order) a (x .x .now) (x .y .now)) floats)
     (listed .write-list .ensures) (second .write-second .ensures) (c .checked-number .ensures)
 

@@ -10,13 +10,13 @@ use Rattle.door.proofs.lists.small.Tie as tie
 on-floats-requires : tie.Need-on-floats-requires
 on-floats-requires c κs =
     let sized : tie.After-second-size = search in
-    let start : tie.Start = search in (
-      start .pre .2,
-      length-take-le _ _ (omega arith),
-      length-take-le _ _ (omega arith),
-      fresh-zeros _ 16 (omega arith)
-          ∙ ap zeros (sized .second-size .ensures .0),
-    )
+    let start : tie.Start = search in
+    record {
+      passed = start .pre .passed;
+      matrix = length-take-le _ _ (omega arith);
+      list = length-take-le _ _ (omega arith);
+      second = fresh-zeros _ 16 (omega arith) ∙ ap zeros (sized .second-size .ensures .0);
+    }
 
 pub small-spec : {M : Type 1} → statement M
 small-spec = tie.close (tie.spec (λ c. omega arith) (λ c κs. omega arith) (λ c. omega arith) (λ c. fresh-length _ 64 (omega arith)) (λ c. omega arith)

@@ -8,7 +8,12 @@ use Rattle.door.proofs.matrices.modest.Tie as tie
 on-floats-requires : tie.Need-on-floats-requires
 on-floats-requires c κs =
     let first : tie.Start = search in
-    (first .pre .2, length-take-le _ _ (omega arith), fresh-zeros _ 328 (omega arith), fresh-zeros _ 32 (omega arith))
+    record {
+      passed = first .pre .passed;
+      matrix = length-take-le _ _ (omega arith);
+      forQ = fresh-zeros _ 328 (omega arith);
+      workspace = fresh-zeros _ 32 (omega arith);
+    }
 
 pub modest-spec : {M : Type 1} → statement M
 modest-spec = tie.close (tie.spec (λ c. omega arith) (λ c. omega arith) (λ c. fresh-length _ 328 (omega arith)) (λ c. omega arith)

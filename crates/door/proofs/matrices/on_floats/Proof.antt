@@ -12,7 +12,7 @@ use Rattle.door.proofs.matrices.on_floats.Statement.{statement}
 use Rattle.door.proofs.matrices.on_floats.Tie as tie
 
 fit : (c : tie.Start) → let x = c .args in MatrixFit (x .r) (length (x .m .now)) (length (x .t .now)) (length (x .q .now))
-fit c = matrix-fit _ (c .args .m .now) _ _ (c .pre .0)
+fit c = matrix-fit _ (c .args .m .now) _ _ (c .pre .passed)
 
 -- too far back to be found from the end in one step
 abbrev start-of : tie.After-decode → tie.Start
@@ -21,7 +21,7 @@ start-of c = search
 write-q-requires : tie.Need-write-q-requires
 write-q-requires c κs =
     let first : tie.Start = search in
-    λ e. omega (arith, fit first .q e, ap length (first .pre .2), zeros-length (first .args .r .order * first .args .r .order))
+    λ e. omega (arith, fit first .q e, ap length (first .pre .forQ), zeros-length (first .args .r .order * first .args .r .order))
 
 returns : tie.Need-returns
 returns c =
@@ -34,10 +34,10 @@ returns c =
     let start = start-of after-decode in
     let x = start .args in
     let pre = start .pre in
-    let floats = decoded (x .m .now) (x .a .now) _ (fit start .matrix) (pre .1) (after-decode .decode .ensures) in
+    let floats = decoded (x .m .now) (x .a .now) _ (fit start .matrix) (pre .matrix) (after-decode .decode .ensures) in
     ran (x .r) (x .m .now) _ _ (x .c .now) (x .work .now) (after-do-decompose .do-decompose .result) (pair _ _) (settlement _ _) _ _ (x .q .now) _
-    (after-asked-by .asked-by .ensures) floats (pre .2) (pre .3)
-    (run-fits (fit start) (ap length floats ∙ floats-length (x .m .now) _ (fit start .matrix)) (ap length (pre .3) ∙ zeros-length _))
+    (after-asked-by .asked-by .ensures) floats (pre .forQ) (pre .workspace)
+    (run-fits (fit start) (ap length floats ∙ floats-length (x .m .now) _ (fit start .matrix)) (ap length (pre .workspace) ∙ zeros-length _))
     (after-do-decompose .do-decompose .ensures .0) (after-decide .decide .ensures) (c .decomposed-number .ensures)
     (encoded _ (x .t .now) (after-encode .encode .ensures) (omega (arith, fit start .t)))
     (after-write-q .write-q .ensures)

@@ -15,7 +15,7 @@ small-requires : tie.Need-small-requires
 small-requires c κs =
     let start : tie.Start = search in
     let here : tie.Then1 = search in
-    (here .if1 .taken, mul-le-mul (here .if1 .taken) (here .if1 .taken), start .pre)
+    record { order = here .if1 .taken; square = mul-le-mul (here .if1 .taken) (here .if1 .taken); passed = start .pre }
 
 -- the same request, with what is known of `wanted` written out
 abbrev known : Request → Bool → Request

@@ -8,7 +8,12 @@ use Rattle.door.proofs.matrices.small.Tie as tie
 on-floats-requires : tie.Need-on-floats-requires
 on-floats-requires c κs =
     let first : tie.Start = search in
-    (first .pre .2, length-take-le _ _ (omega arith), fresh-zeros _ 64 (omega arith), fresh-zeros _ 16 (omega arith))
+    record {
+      passed = first .pre .passed;
+      matrix = length-take-le _ _ (omega arith);
+      forQ = fresh-zeros _ 64 (omega arith);
+      workspace = fresh-zeros _ 16 (omega arith);
+    }
 
 pub small-spec : {M : Type 1} → statement M
 small-spec =

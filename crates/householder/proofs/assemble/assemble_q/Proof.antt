@@ -1,9 +1,11 @@
 -- `householder::assemble::assemble_q` meets its contract. Assumes nothing.
 use mathlib.Core.Path.{_≡_, refl, sym, _∙_}
-use Prim.Native.Nat.{_+_, _*_, _-_, _≤_}
+use Prim.Native.Nat.{ℕ, _+_, _*_, _-_, _≤_}
+use mathlib.Core.List.{List}
 use native.Mathlib.Omega.{arith}
 use borrow.Author.Tests.{le-leb, lt-leb}
 use lib.ListN.{length}
+use lib.Ieee.{Float}
 use Rattle.loops.specs.Place.{Column, column}
 use Rattle.loops.specs.Down.{down, down-none, down-turn}
 use Rattle.matrix.specs.Fits.{blockFits}
@@ -13,9 +15,17 @@ use Rattle.householder.proofs.Empty.{assembled-empty}
 use Rattle.householder.proofs.assemble.assemble_q.Statement.{statement}
 use Rattle.householder.proofs.assemble.assemble_q.Tie as tie
 
+-- what the first i axes, from the last of them down, have yet to do is the whole
+record Assembling (n : ℕ) (m signs q₀ : List Float) (last i : ℕ) (q : List Float) : Type 0 where
+  matrix : Fits n (length m) n n
+  order : last + 1 ≡ n
+  signed : last ≤ length signs
+  size : length q ≡ n * n
+  within : i ≤ last
+  rest : down (withAxis n m signs) i q ≡ down (withAxis n m signs) last q₀
+
 abbrev Inv-loop : tie.InvT-loop
-Inv-loop m n signs q₀ last i₀ q i = Fits n (length m) n n × (last + 1 ≡ n) × (last ≤ length signs) × (length q ≡ n * n) × (i ≤ last)
-    × (down (withAxis n m signs) i q ≡ down (withAxis n m signs) last q₀)
+Inv-loop m n signs q₀ last i₀ q i = Assembling n m signs q₀ last i q
 
 abbrev μ-loop : tie.MeasureT-loop
 μ-loop m n signs q₀ last i₀ q i = i
@@ -70,7 +80,14 @@ returns-4 c = rw (
 )
 
 loop-holds : tie.Need-loop-holds Inv-loop μ-loop
-loop-holds c = (fitted (search), omega arith, omega arith, omega (arith, fitted-q (search)), omega arith, refl)
+loop-holds c = record {
+  matrix = fitted (search);
+  order = omega arith;
+  signed = omega arith;
+  size = omega (arith, fitted-q (search));
+  within = omega arith;
+  rest = refl;
+}
 
 loop-again : tie.Need-loop-again Inv-loop μ-loop
 unfolding withAxis
@@ -78,20 +95,21 @@ loop-again c =
     let at-loop : tie.At-loop Inv-loop μ-loop = search in
     let start : tie.Start Inv-loop μ-loop = search in
     let inv = at-loop .loop .inv in
-    let x = start .args in (
-      inv .0,
-      omega arith,
-      omega arith,
-      omega arith,
-      omega arith,
-      rw (c .before .before .reflect-with-sign .ensures, c .before .before .before .signum .ensures)
-          (sym (down-turn (withAxis (x .n) (x .m .now) (x .signs .now)) (at-loop .loop .i) (at-loop .loop .q) (omega arith)) ∙ inv .5),
-    )
+    let x = start .args in
+    record {
+      matrix = inv .matrix;
+      order = inv .order;
+      signed = inv .signed;
+      size = omega arith;
+      within = omega arith;
+      rest = rw (c .before .before .reflect-with-sign .ensures, c .before .before .before .signum .ensures)
+          (sym (down-turn (withAxis (x .n) (x .m .now) (x .signs .now)) (at-loop .loop .i) (at-loop .loop .q) (omega arith)) ∙ inv .rest);
+    }
 
 returns-5 : tie.Need-returns-5 Inv-loop μ-loop
 returns-5 c =
     let e : c .before .loop .i ≡ 0 = omega arith in
-    sym (down-none _ _) ∙ rw e at (c .before .loop .inv .5) ∙ rw (c .before .before .before .before .fill-with-identity .ensures) (sym (passed (search)))
+    sym (down-none _ _) ∙ rw e at (c .before .loop .inv .rest) ∙ rw (c .before .before .before .before .fill-with-identity .ensures) (sym (passed (search)))
 
 pub assemble-q-spec : {M : Type 1} → statement M
 assemble-q-spec = tie.close (tie.spec Inv-loop μ-loop

@@ -18,7 +18,7 @@ loop-again c =
     let at-loop : tie.At-loop Inv-loop μ-loop = search in
     let after-sums-of-eight : tie.After-sums-of-eight Inv-loop μ-loop = search in
     putting-more (at-loop .loop .inv) (omega arith) (omega arith)
-    (λ e. rw (c .before .before .put-eight .ensures, after-first-of .first-of .ensures .0, after-sums-of-eight .sums-of-eight .ensures)
+    (λ e. rw (c .before .before .put-eight .ensures, after-first-of .first-of .ensures .is, after-sums-of-eight .sums-of-eight .ensures)
     (eight-turn _ _ _ _ _ _ _ _ (omega arith) e))
 
 pub eight-rows-spec : {M : Type 1} → statement M

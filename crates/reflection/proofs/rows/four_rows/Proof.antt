@@ -18,7 +18,7 @@ loop-again c =
     let at-loop : tie.At-loop Inv-loop μ-loop = search in
     let after-sums-of-four : tie.After-sums-of-four Inv-loop μ-loop = search in
     putting-more (at-loop .loop .inv) (omega arith) (omega arith)
-    (λ e. rw (c .before .before .put-four .ensures, after-first-of .first-of .ensures .0, after-sums-of-four .sums-of-four .ensures)
+    (λ e. rw (c .before .before .put-four .ensures, after-first-of .first-of .ensures .is, after-sums-of-four .sums-of-four .ensures)
     (four-turn _ _ _ _ _ _ _ _ (omega arith) e))
 
 pub four-rows-spec : {M : Type 1} → statement M

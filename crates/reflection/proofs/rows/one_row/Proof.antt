@@ -17,7 +17,7 @@ loop-again : tie.Need-loop-again Inv-loop μ-loop
 loop-again c =
     let after-sum : tie.After-sum Inv-loop μ-loop = search in
     putting-more (c .before .before .before .before .loop .inv) (omega arith) (simp length-set (omega arith))
-    (λ e. rw (c .before .before .at .ensures .0, after-sum .sum .ensures) (one-turn _ _ _ _ _ _ _ _ e))
+    (λ e. rw (c .before .before .at .ensures .is, after-sum .sum .ensures) (one-turn _ _ _ _ _ _ _ _ e))
 
 pub one-row-spec : {M : Type 1} → statement M
 one-row-spec = tie.close (tie.spec Inv-loop μ-loop (λ c κs. omega arith) (λ c. putting-begun (omega arith) (omega arith))

@@ -1,44 +1,24 @@
 -- `reflection::rows::rows_by_eight` meets its contract. Assumes nothing.
-use mathlib.Core.Path.{_≡_, sym}
-use Prim.Native.Nat.{_+_, _*_, _-_, _≤_}
+use mathlib.Core.Path.{_≡_}
+use Prim.Native.Nat.{_+_, _*_, _-_}
 use native.Mathlib.Omega.{arith}
-use lib.ListN.{length}
-use Rattle.matrix.specs.Entries.{inBlock}
-use Rattle.matrix.proofs.Blocks.{inBlock-no-rows}
-use Rattle.reflection.specs.Reflected.{mirroredRows}
-use Rattle.reflection.proofs.RowTurn.{rows-more}
+use Rattle.reflection.proofs.RowLoops.{Taking, taking-begun, taking-more, taking-done}
 use Rattle.reflection.proofs.rows.rows_by_eight.Statement.{statement}
 use Rattle.reflection.proofs.rows.rows_by_eight.Tie as tie
 
 abbrev Inv-loop : tie.InvT-loop
-Inv-loop a t₀ n eights c0 sign b₀ t b = (b ≤ eights) × (length t ≡ n * n) × (t ≡ inBlock n 0 (b * 8) c0 (c0 + length a) (mirroredRows a sign n c0 t₀) t₀)
+Inv-loop a t₀ n eights c0 sign b₀ t b = Taking a sign n 0 (eights * 8) c0 t₀ (b * 8) t
 
 abbrev μ-loop : tie.MeasureT-loop
 μ-loop a t₀ n eights c0 sign b₀ t b = eights - b
-
-loop-holds : tie.Need-loop-holds Inv-loop μ-loop
-loop-holds c = (omega arith, omega arith, sym (inBlock-no-rows _ _ _ (omega arith) 0 _ _ (omega arith) (omega arith)))
 
 loop-again : tie.Need-loop-again Inv-loop μ-loop
 loop-again c =
     let at-loop : tie.At-loop Inv-loop μ-loop = search in
     let start : tie.Start Inv-loop μ-loop = search in
-    let inv = at-loop .loop .inv in
-    let x = start .args in
-    let e : (at-loop .loop .b + 1) * 8 ≡ at-loop .loop .b * 8 + 8 = omega arith in (
-      omega arith,
-      omega arith,
-      rw (c .before .before .eight-rows .ensures, e)
-          (rows-more (x .a .now) (x .sign) _ _ _ _ _ (x .t .now) _ (omega arith) (omega arith) (omega arith) (omega arith) (omega arith) (inv .2)),
-    )
-
-returns : tie.Need-returns Inv-loop μ-loop
-returns c = let e : c .before .loop .b ≡ c .before .before .before .before .args .eights = omega arith in rw e at (c .before .loop .inv .2)
+    let e : (at-loop .loop .b + 1) * 8 ≡ at-loop .loop .b * 8 + 8 = omega arith in
+    rw e (taking-more (start .pre) (at-loop .loop .inv) (omega arith) (omega arith) (omega arith) (c .before .before .eight-rows .ensures))
 
 pub rows-by-eight-spec : {M : Type 1} → statement M
-rows-by-eight-spec = tie.close (tie.spec Inv-loop μ-loop
-    loop-holds
-    (λ c. omega arith) (λ c κs. omega arith) (λ c. omega arith) (λ c. omega arith)
-    loop-again
-    (λ c. omega arith)
-    returns)
+rows-by-eight-spec = tie.close (tie.spec Inv-loop μ-loop (λ c. taking-begun (search) (omega arith)) (λ c. omega arith) (λ c κs. omega arith)
+    (λ c. omega arith) (λ c. omega arith) loop-again (λ c. omega arith) (λ c. taking-done (c .before .loop .inv) (omega arith)))

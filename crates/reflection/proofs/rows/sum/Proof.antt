@@ -15,7 +15,7 @@ abbrev μ-loop : tie.MeasureT-loop
 
 pub sum-spec : {M : Type 1} → statement M
 sum-spec = tie.close (tie.spec Inv-loop μ-loop (λ c κs. omega arith) (λ c. omega arith) (λ c. omega arith) (λ c. omega arith)
-    (λ c. summing-begun (omega arith) (omega arith) (rw (c .before .before .at .ensures .0) (along-one _ _ _ _ _)))
+    (λ c. summing-begun (omega arith) (omega arith) (rw (c .before .before .at .ensures .is) (along-one _ _ _ _ _)))
     (λ c. omega arith) (λ c κs. omega arith) (λ c. omega arith) (λ c. omega arith) (λ c. omega arith) (λ c. omega arith) (λ c. omega arith) (λ c. omega arith)
-    (λ c. summing-more (c .before .before .before .before .loop .inv) (omega arith) (λ e h. rw (c .before .before .at2 .ensures .0, along-more, h, ← e)))
+    (λ c. summing-more (c .before .before .before .before .loop .inv) (omega arith) (λ e h. rw (c .before .before .at2 .ensures .is, along-more, h, ← e)))
     (λ c. summing-done (c .before .loop .inv) (omega arith) ∙ along-done _ _ _ _ _ _ refl))

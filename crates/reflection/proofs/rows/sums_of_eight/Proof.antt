@@ -15,8 +15,8 @@ abbrev μ-loop : tie.MeasureT-loop
 
 pub sums-of-eight-spec : {M : Type 1} → statement M
 sums-of-eight-spec = tie.close (tie.spec Inv-loop μ-loop (λ c κs. omega arith) (λ c. omega arith) (λ c κs. omega arith)
-    (λ c. summing-begun (omega arith) (omega arith) (rw (c .times-eight .ensures, c .before .before .first-of .ensures .0) (eight-one _ _ _ _ _)))
+    (λ c. summing-begun (omega arith) (omega arith) (rw (c .times-eight .ensures, c .before .before .first-of .ensures .is) (eight-one _ _ _ _ _)))
     (λ c. omega arith) (λ c κs. omega arith) (λ c. omega arith) (λ c. omega arith) (λ c κs. omega arith) (λ c. omega arith) (λ c. omega arith)
     (λ c. summing-more (c .before .before .before .before .loop .inv) (omega arith)
-    (λ e h. rw (c .plus-eight .ensures, c .before .before .first-of2 .ensures .0, e) (eight-more _ _ _ _ _ _ h)))
+    (λ e h. rw (c .plus-eight .ensures, c .before .before .first-of2 .ensures .is, e) (eight-more _ _ _ _ _ _ h)))
     (λ c. summing-done (c .before .loop .inv) (omega arith) ∙ eight-done _ _ _ _ _ _ refl))

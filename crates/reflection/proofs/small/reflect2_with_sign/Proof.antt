@@ -19,7 +19,7 @@ abbrev μ-loop : tie.MeasureT-loop
 loop-again : tie.Need-loop-again Inv-loop μ-loop
 loop-again c =
     let inv = c .before .before .before .before .loop .inv in
-    down-more inv (omega arith) (rw (c .before .before .first-of .ensures .0) (turn-down-two _ _ _ _ _ _ _ _ (inv .fits .inRows) (inv .from) (inv .done)))
+    down-more inv (omega arith) (rw (c .before .before .first-of .ensures .is) (turn-down-two _ _ _ _ _ _ _ _ (inv .fits .inRows) (inv .from) (inv .done)))
 
 pub reflect2-with-sign-spec : {M : Type 1} → statement M
 unfolding reflected

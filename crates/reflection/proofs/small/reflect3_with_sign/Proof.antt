@@ -21,7 +21,7 @@ loop-again : tie.Need-loop-again Inv-loop μ-loop
 loop-again c =
     let at-loop : tie.At-loop Inv-loop μ-loop = search in
     let inv = at-loop .loop .inv in
-    down-more inv (omega arith) (rw (c .before .before .before .first-of .ensures .0)
+    down-more inv (omega arith) (rw (c .before .before .before .first-of .ensures .is)
     (turn-down-three _ _ _ _ _ _ _ _ (inv .fits .inRows) (inv .from) (inv .done)))
 
 pub reflect3-with-sign-spec : {M : Type 1} → statement M

@@ -19,7 +19,7 @@ loop-again : tie.Need-loop-again Inv-loop μ-loop
 loop-again c =
     let at-loop : tie.At-loop Inv-loop μ-loop = search in
     let inv = at-loop .loop .inv in
-    across-more inv (omega arith) (rw (c .before .before .before .at .ensures .0, c .before .before .at2 .ensures .0)
+    across-more inv (omega arith) (rw (c .before .before .before .at .ensures .is, c .before .before .at2 .ensures .is)
     (turn-across-two _ _ _ _ _ _ _ (inv .fits .size) (omega arith) (inv .fits .inCols) (inv .done)))
 
 pub reflect-rows2-with-sign-spec : {M : Type 1} → statement M

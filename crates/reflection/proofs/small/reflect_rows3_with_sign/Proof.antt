@@ -17,10 +17,12 @@ abbrev μ-loop : tie.MeasureT-loop
 
 loop-again : tie.Need-loop-again Inv-loop μ-loop
 loop-again c =
+    let after-at3 : tie.After-at3 Inv-loop μ-loop = search in
+    let after-at2 : tie.After-at2 Inv-loop μ-loop = search in
     let after-at : tie.After-at Inv-loop μ-loop = search in
     let at-loop : tie.At-loop Inv-loop μ-loop = search in
     let inv = at-loop .loop .inv in
-    across-more inv (omega arith) (rw (after-at .at .ensures .0, c .before .before .before .before .at2 .ensures .0, c .before .before .before .at3 .ensures .0)
+    across-more inv (omega arith) (rw (after-at .at .ensures .is, after-at2 .at2 .ensures .is, after-at3 .at3 .ensures .is)
     (turn-across-three _ _ _ _ _ _ _ (inv .fits .size) (omega arith) (inv .fits .inCols) (inv .done)))
 
 pub reflect-rows3-with-sign-spec : {M : Type 1} → statement M

@@ -18,7 +18,7 @@ unfolding runOf workAfter
 returns c = (rw (outside (c .before .run-fits .ensures) (c .if1 .taken)), rw (outside (c .before .run-fits .ensures) (c .if1 .taken)))
 
 run-fitting-requires : tie.Need-run-fitting-requires
-run-fitting-requires c κs = let f = fitted (search) in (f .order, f .some, f .size)
+run-fitting-requires c κs = let f = fitted (search) in (record { order = f .order; size = f .size }, f .some)
 
 returns-2 : tie.Need-returns-2
 unfolding runOf workAfter

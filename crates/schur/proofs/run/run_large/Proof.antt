@@ -14,7 +14,7 @@ ran : (c : tie.After-run-from) → let start : tie.Start =
 ran c =
     let begun : tie.After-begin = search in
     let start : tie.Start = search in
-    c .run-from .ensures ∙ ap (runFrom (start .args .asked) (start .args .budget)) (begun .begin .ensures .0 .0)
+    c .run-from .ensures ∙ ap (runFrom (start .args .asked) (start .args .budget)) (begun .begin .ensures .is)
 
 returns : tie.Need-returns
 returns c =
@@ -26,7 +26,7 @@ returns-2 c =
     let goes : tie.Else1 = search in
     let there : tie.After-run-from = search in
     let begun : tie.After-begin = search in
-    rw (c .before .before .scale-mut .ensures, begun .begin .ensures .0 .1) (answered-ended _ _ _ _ _ (ran there) (goes .if1 .left))
+    rw (c .before .before .scale-mut .ensures, begun .begin .ensures .amax) (answered-ended _ _ _ _ _ (ran there) (goes .if1 .left))
 
 pub run-large-spec : {M : Type 1} → statement M
 run-large-spec = tie.close (tie.spec (λ c κs. omega arith) (λ c κs. omega arith) (λ c. omega arith) (λ c. omega arith) (λ c. omega arith) returns

@@ -9,13 +9,15 @@ returns : tie.Need-returns
 unfolding turnOf
 returns c =
     let turned : tie.After-turn-two = search in
-    (rw (le-leb _ _ (turned .before .before .before .if1 .taken)) (turned .turn-two .ensures .0), (omega arith, omega arith, omega arith))
+    let there = turned .turn-two .ensures in
+    record { is = rw (le-leb _ _ (turned .before .before .before .if1 .taken)) (there .is); window = there .window; count = there .count }
 
 returns-2 : tie.Need-returns-2
 unfolding turnOf
 returns-2 c =
     let turned : tie.After-turn-more = search in
-    (rw (lt-leb _ _ (turned .before .before .before .if1 .left)) (turned .turn-more .ensures .0), (omega arith, omega arith, omega arith))
+    let there = turned .turn-more .ensures in
+    record { is = rw (lt-leb _ _ (turned .before .before .before .if1 .left)) (there .is); window = there .window; count = there .count }
 
 pub turn-spec : {M : Type 1} → statement M
 turn-spec = tie.close (tie.spec (λ c. omega arith) (λ c κs. omega arith) (λ c. omega arith) (λ c. omega arith) returns
