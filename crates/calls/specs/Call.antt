@@ -1,5 +1,5 @@
--- A call by its entry: what is answered, and what the three lent slices hold afterwards. Each entry is the library's definition of it; a slice that it does not
--- have stays as it was.
+-- A call by its entry: what is answered, and what the three lent slices hold afterwards. Each entry is the library's
+-- definition of it; a slice that it does not have stays as it was.
 use mathlib.Core.Bool.{Bool, true, false}
 use mathlib.Core.List.{List, [], _∷_}
 use lib.ListN.{set}

@@ -17,8 +17,8 @@ fn square(n: usize) -> usize {
     SQUARES[n]
 }
 
-// With the seed of the workspace or of Q. A reduction has a Q as large as its matrix, and a sign for each of its columns,
-// or for each before the one that it ends with.
+// With the seed of the workspace or of Q. A reduction has a Q as large as its matrix, and a sign for each of its
+// columns, or for each before the one that it ends with.
 pub(crate) fn sized(k: usize, c: Case) -> Case {
     let mut d = c;
     if k < 2 {

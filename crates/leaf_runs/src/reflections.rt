@@ -1,5 +1,5 @@
-// Reflections by an axis that is a slice, that has three numbers, that has two: of columns, without and with a sign, and
-// of rows.
+// Reflections by an axis that is a slice, that has three numbers, that has two: of columns, without and with a sign,
+// and of rows.
 use crate::case::Case;
 use crate::draw::drawn;
 use crate::vectors::three;

@@ -166,7 +166,8 @@ three =
 -- right.
 along-rows : map shown (
     map (along (numbers (0x3fb9_9999_9999_999a ∷ 0xc008_0000_0000_0000 ∷ [])) 3 1 (numbers three)) (0 ∷ 1 ∷ [])
-    ∷ map (along (numbers (0x3fd3_3333_3333_3333 ∷ 0x3fb9_9999_9999_999a ∷ 0x3fe6_6666_6666_6666 ∷ [])) 3 0 (numbers three))
+    ∷ map (along (numbers (0x3fd3_3333_3333_3333 ∷ 0x3fb9_9999_9999_999a ∷ 0x3fe6_6666_6666_6666 ∷ [])) 3 0
+    (numbers three))
     (0 ∷ 1 ∷ 2 ∷ [])
     ∷ [])
     ≡ (0x8000_0000_0000_0000 ∷ 0 ∷ [])
