@@ -1,7 +1,7 @@
 // The text for a record: the header is checked, the matrix decomposed, T, Q and the eigenvalues are written out.
 ghost use mathlib.Core.Path.{_≡_};
 ghost use Prim.Native.Nat.{_+_, _*_, _≤_};
-ghost use lib.ListN.{length};
+ghost use lib.ListN.{length, replicate};
 ghost use Rattle.io.specs.Counts.{Counts};
 ghost use Rattle.pass.specs.Pair.{pair};
 ghost use Rattle.words.specs.Floats.{floatsOf, zeros};
@@ -136,6 +136,14 @@ fn put_record(text: &mut [u8], input: &[u8]) -> usize
         Checked::Refused(r) => put_refused(text, 0, r),
         Checked::Passed => put_passed(text, h, &input[20..]),
     }
+}
+
+// Room for an input: one byte more than the longest record, so that a longer input is seen to be longer.
+pub fn room() -> [u8; 8213]
+    ensures { λ r. ⌜ r ≡ replicate 8213 0 ⌝ }
+    ensures { λ r. ⌜ 8213 ≡ length r ⌝ }
+{
+    [0; 8213]
 }
 
 // The text for an input, whatever its bytes are, at the front of `text`; its length is answered. Where less than

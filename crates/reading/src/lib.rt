@@ -1,9 +1,9 @@
-// A record from a descriptor: read until there is no more room, or the input ends, or a read fails. A read may
-// bring fewer bytes than there is room for, and is no end for that.
+// Bytes from a descriptor: read until there is no more room, or the input ends, or a read fails. A read may bring
+// fewer bytes than there is room for, and is no end for that.
 ghost use mathlib.Core.Path.{_≡_};
 ghost use Prim.Native.Nat.{_+_, _<_, _^_};
 ghost use lib.ListN.{length};
-ghost use Rattle.record.specs.Reading.{afterRead, blank, Within};
+ghost use Rattle.reading.specs.Reading.{afterRead, Within};
 
 // What one read comes to: more bytes, all in all so many; the end of the input; or it failed.
 pub enum Reading {
@@ -16,14 +16,6 @@ pub enum Reading {
 pub enum Filled {
     Bytes(usize),
     Failed,
-}
-
-// One byte more than the longest record, so that a longer input is seen to be longer.
-pub fn room() -> [u8; 8213]
-    ensures { λ r. ⌜ r ≡ blank 8213 ⌝ }
-    ensures { λ r. ⌜ 8213 ≡ length r ⌝ }
-{
-    [0; 8213]
 }
 
 // `done` bytes were there, there was room for `room` more, and a read answered `got`.

@@ -8,10 +8,10 @@ use borrow.Author.Tests.{ltb-true}
 use lib.Dec.{T}
 use lib.IntN.{ℤ, pos, negsuc, natAbs}
 use lib.Signed.{ltZ, nonNeg}
-use Rattle.record.specs.declared.reading.Reading.the-variants.{More, End, Broken}
-use Rattle.record.specs.declared.reading.Filled.{Filled}
-use Rattle.record.specs.declared.reading.Filled.the-variants.{Bytes}
-use Rattle.record.specs.Reading.{afterRead, Within}
+use Rattle.reading.specs.declared.Reading.the-variants.{More, End, Broken}
+use Rattle.reading.specs.declared.Filled.{Filled}
+use Rattle.reading.specs.declared.Filled.the-variants.{Bytes}
+use Rattle.reading.specs.Reading.{afterRead, Within}
 
 pub not-below : (z : ℤ) → ltZ z (pos 0) ≡ false → T (nonNeg z)
 not-below (pos n) e = tt

@@ -1,12 +1,12 @@
--- `record::reading::fill` meets its contract. Assumes nothing.
+-- `reading::fill` meets its contract. Assumes nothing.
 use Prim.Native.Nat.{_-_, _≤_}
 use mathlib.Core.Path.{_≡_, sym, _∙_}
 use native.Mathlib.Omega.{arith}
 use borrow.Author.Needs.{needs}
 use lib.ListN.{length}
-use Rattle.record.proofs.Arriving.{came}
-use Rattle.record.proofs.reading.fill.Statement.{statement}
-use Rattle.record.proofs.reading.fill.Tie as tie
+use Rattle.reading.proofs.Arriving.{came}
+use Rattle.reading.proofs.fill.Statement.{statement}
+use Rattle.reading.proofs.fill.Tie as tie
 
 abbrev Inv-loop : tie.InvT-loop
 Inv-loop fd buf₀ done₀ buf done = (length buf ≡ length buf₀) × (done ≤ length buf₀)

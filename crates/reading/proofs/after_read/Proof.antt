@@ -1,4 +1,4 @@
--- `record::reading::after_read` meets its contract. Assumes nothing.
+-- `reading::after_read` meets its contract. Assumes nothing.
 use native.Mathlib.Omega.{arith}
 use mathlib.Core.Path.{_≡_, ap, _∙_}
 use lib.Dec.{T}
@@ -7,10 +7,10 @@ use lib.Signed.{nonNeg}
 use mir.Syntax.{w64}
 use mir.Val.{toZ, ofZ}
 use mir.Facts.{toZ-ofZ, fits-natAbs, sfits-toZ, fits-ofZ}
-use Rattle.record.specs.Reading.{afterRead}
-use Rattle.record.proofs.Arriving.{not-below, broken, ended, some-came, all-came}
-use Rattle.record.proofs.reading.after_read.Statement.{statement}
-use Rattle.record.proofs.reading.after_read.Tie as tie
+use Rattle.reading.specs.Reading.{afterRead}
+use Rattle.reading.proofs.Arriving.{not-below, broken, ended, some-came, all-came}
+use Rattle.reading.proofs.after_read.Statement.{statement}
+use Rattle.reading.proofs.after_read.Tie as tie
 
 -- what the machine has read back from the answer's bits is the answer
 abbrev read : tie.Start → ℤ
