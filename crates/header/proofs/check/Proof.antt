@@ -1,4 +1,4 @@
--- `record::header::check` meets its contract. Assumes nothing.
+-- `header::check` meets its contract. Assumes nothing.
 use native.Mathlib.Omega.{arith}
 use borrow.Author.Tests.{eq-eqb, ne-eqb, lt-ltb, le-ltb}
 use Prim.Native.Nat.{_+_, _*_}
@@ -6,9 +6,9 @@ use mathlib.Core.Path.{_≡_, sym, _∙_}
 use mathlib.Core.Bool.{true, false}
 use lib.Dec.{eqb, ltb}
 use Rattle.refusal.specs.Refusal.{refuse, _next_}
-use Rattle.record.specs.Record.{headerChecks}
-use Rattle.record.proofs.header.check.Statement.{statement}
-use Rattle.record.proofs.header.check.Tie as tie
+use Rattle.header.specs.Record.{headerChecks}
+use Rattle.header.proofs.check.Statement.{statement}
+use Rattle.header.proofs.check.Tie as tie
 
 -- each check that has passed
 

@@ -9,9 +9,12 @@ use lib.ListN.{length, getD}
 use Rattle.refusal.specs.declared.refusal.Refusal.the-variants.{OrderZero, OrderTooLarge, InputCutShort, UnknownKind}
 use Rattle.refusal.specs.declared.refusal.Refusal.the-variants.{InputLengthWrong}
 use Rattle.refusal.specs.declared.refusal.Checked.{Checked}
+use Rattle.refusal.specs.declared.refusal.Checked.the-variants.{Passed, Refused}
 use Rattle.refusal.specs.Refusal.{refuse, _next_}
 use Rattle.words.specs.Words.{le64}
-use Rattle.record.specs.declared.header.Header.{Header}
+use Rattle.header.specs.declared.Header.{Header}
+use Rattle.header.specs.declared.Examined.{Examined}
+use Rattle.header.specs.declared.Examined.the-variants.{Fit, Unfit}
 
 -- the number in two, and in four bytes from `at` on
 unfoldable pub le16 : List ℕ → ℕ → ℕ
@@ -35,3 +38,11 @@ headerChecks h bytes =
 
 unfoldable pub recordChecks : List ℕ → Checked
 recordChecks b = refuse (ltb (length b) 20) InputCutShort next headerChecks (headerOf b) (length b)
+
+-- what is known of a header by its checks
+unfoldable pub byChecks : Checked → Header → Examined
+byChecks Passed h = Fit h
+byChecks (Refused r) h = Unfit r
+
+unfoldable pub examined : List ℕ → Examined
+examined b = byChecks (recordChecks b) (headerOf b)

@@ -1,9 +1,11 @@
-// The header of a record, and what is checked of it. A number's lowest byte comes first.
+// The header of a record of the program `looproots`: read, and checked in the order of document 01. A number's lowest
+// byte comes first.
 ghost use mathlib.Core.Path.{_≡_};
 ghost use Prim.Native.Nat.{_+_, _*_, _<_, _≤_, _^_};
 ghost use lib.ListN.{length, getD};
 ghost use Rattle.words.specs.Words.{le64};
-ghost use Rattle.record.specs.Record.{le16, le32, headerOf, headerChecks};
+ghost use Rattle.header.specs.Record.{le16, le32, headerOf, headerChecks, examined};
+ghost use Rattle.header.specs.Read.{FieldRead, HeaderRead};
 use refusal::Checked;
 use refusal::Refusal;
 
@@ -15,23 +17,29 @@ pub struct Header {
     pub tolerance: u64,
 }
 
+// The header of a record without fault, or the first fault.
+pub enum Examined {
+    Fit(Header),
+    Unfit(Refusal),
+}
+
 fn byte(b: &[u8], at: usize) -> u64
     requires { ⌜ at < length (now b) ⌝ }
-    ensures { λ r. ⌜ (r ≡ getD (now (b .entry)) at 0) × (r < 256) ⌝ }
+    ensures { λ r. ⌜ FieldRead (getD (now (b .entry)) at 0) 256 r ⌝ }
 {
     b[at] as u64
 }
 
 fn two(b: &[u8], at: usize) -> u64
     requires { ⌜ at + 2 ≤ length (now b) ⌝ }
-    ensures { λ r. ⌜ (r ≡ le16 (now (b .entry)) at) × (r < 65536) ⌝ }
+    ensures { λ r. ⌜ FieldRead (le16 (now (b .entry)) at) 65536 r ⌝ }
 {
     byte(b, at) + byte(b, at + 1) * 256
 }
 
 fn four(b: &[u8], at: usize) -> u64
     requires { ⌜ at + 4 ≤ length (now b) ⌝ }
-    ensures { λ r. ⌜ (r ≡ le32 (now (b .entry)) at) × (r < 2 ^ 32) ⌝ }
+    ensures { λ r. ⌜ FieldRead (le32 (now (b .entry)) at) (2 ^ 32) r ⌝ }
 {
     two(b, at) + two(b, at + 2) * 65536
 }
@@ -43,10 +51,9 @@ fn eight(b: &[u8], at: usize) -> u64
     four(b, at) + four(b, at + 4) * 4294967296
 }
 
-pub(crate) fn read_header(b: &[u8]) -> Header
+fn read_header(b: &[u8]) -> Header
     requires { ⌜ 20 ≤ length (now b) ⌝ }
-    ensures { λ r. ⌜ r ≡ headerOf (now (b .entry)) ⌝ }
-    ensures { λ r. ⌜ (r .length < 2 ^ 32) × (r .order < 65536) × (r .budget < 2 ^ 32) ⌝ }
+    ensures { λ r. ⌜ HeaderRead (now (b .entry)) r ⌝ }
 {
     let length = four(b, 0);
     let kind = two(b, 4);
@@ -71,7 +78,7 @@ fn told(order: usize) -> u64
 }
 
 // In the order of document 01, for an input of so many bytes.
-pub(crate) fn check(h: Header, bytes: u64) -> Checked
+fn check(h: Header, bytes: u64) -> Checked
     requires { ⌜ h .length < 2 ^ 32 ⌝ }
     ensures { λ r. ⌜ r ≡ headerChecks h bytes ⌝ }
 {
@@ -97,4 +104,18 @@ pub(crate) fn check(h: Header, bytes: u64) -> Checked
         return Checked::Refused(Refusal::InputLengthWrong);
     }
     Checked::Passed
+}
+
+// The header of an input, whatever its bytes are, or the first fault.
+pub fn examine(input: &[u8]) -> Examined
+    ensures { λ r. ⌜ r ≡ examined (now (input .entry)) ⌝ }
+{
+    if input.len() < 20 {
+        return Examined::Unfit(Refusal::InputCutShort);
+    }
+    let h = read_header(input);
+    match check(h, input.len() as u64) {
+        Checked::Refused(r) => Examined::Unfit(r),
+        Checked::Passed => Examined::Fit(h),
+    }
 }

@@ -1,8 +1,8 @@
--- `record::header::two` meets its contract. Assumes nothing.
+-- `header::two` meets its contract. Assumes nothing.
 use native.Mathlib.Omega.{arith}
-use Rattle.record.specs.Record.{le16}
-use Rattle.record.proofs.header.two.Statement.{statement}
-use Rattle.record.proofs.header.two.Tie as tie
+use Rattle.header.specs.Record.{le16}
+use Rattle.header.proofs.two.Statement.{statement}
+use Rattle.header.proofs.two.Tie as tie
 
 pub two-spec : {M : Type 1} → statement M
 unfolding le16
