@@ -4,11 +4,11 @@
 // has no exit status to give.
 use libc::STDIN_FILENO;
 use libc::STDOUT_FILENO;
-use record::Filled;
+use reading::Filled;
 
 fn main() {
     let mut input = record::room();
-    let Filled::Bytes(k) = record::fill(STDIN_FILENO, &mut input) else {
+    let Filled::Bytes(k) = reading::fill(STDIN_FILENO, &mut input) else {
         os::fail(b"looproots: standard input was not read");
         return;
     };

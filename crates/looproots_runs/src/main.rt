@@ -3,7 +3,7 @@
 // printed for them, `stdout`, come from the Rust crate and from document 01, never from this program:
 // `oracle/run records` makes them again and compares, `oracle/run records --write` stores them.
 use libc::STDOUT_FILENO;
-use record::Filled;
+use reading::Filled;
 
 fn say(text: &[u8]) {
     if !io::write_all(STDOUT_FILENO, text) {
@@ -14,7 +14,7 @@ fn say(text: &[u8]) {
 // The text of the record that a descriptor brings.
 fn answer(fd: i32) {
     let mut input = record::room();
-    let Filled::Bytes(k) = record::fill(fd, &mut input) else {
+    let Filled::Bytes(k) = reading::fill(fd, &mut input) else {
         os::fail(b"looproots_runs: a file was not read");
         return;
     };

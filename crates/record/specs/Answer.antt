@@ -15,9 +15,11 @@ use Rattle.decomposition.specs.declared.Decomposed.{Decomposed}
 use Rattle.decomposition.specs.declared.Decomposed.the-variants.{Accepted, Declined}
 use Rattle.decomposition.specs.Decomposition.{Outcome, placedOf}
 use Rattle.eigenvalues.specs.Readers.{complexRead}
-use Rattle.record.specs.declared.header.Header.{Header}
+use Rattle.header.specs.declared.Header.{Header}
+use Rattle.header.specs.declared.Examined.{Examined}
+use Rattle.header.specs.declared.Examined.the-variants.{Fit, Unfit}
+use Rattle.header.specs.Record.{examined}
 use Rattle.record.specs.Text.{ascii, refusedLine, passesLine, matrixLines, eigenvalueLines}
-use Rattle.record.specs.Record.{headerOf, recordChecks}
 
 -- what the complex reader has answered
 unfoldable pub eigenvaluesText : ℕ → Checked → List Float → List Float → List ℕ
@@ -45,9 +47,9 @@ unfoldable pub matrixText : Header → (m : List Float) → List ℕ
 matrixText h m = let o = decomposed h m in decomposedText (h .order) (o .answer) (o .pair)
 
 -- it is asked of the entries, which lie behind the header's 20 bytes
-unfoldable pub checkedText : Checked → Header → List ℕ → List ℕ
-checkedText Passed h b = matrixText h (floatsOf (drop 20 b))
-checkedText (Refused r) h b = refusedLine (toldOf r)
+unfoldable pub examinedText : Examined → List ℕ → List ℕ
+examinedText (Fit h) b = matrixText h (floatsOf (drop 20 b))
+examinedText (Unfit r) b = refusedLine (toldOf r)
 
 unfoldable pub textOf : List ℕ → List ℕ
-textOf b = checkedText (recordChecks b) (headerOf b) b
+textOf b = examinedText (examined b) b

@@ -10,10 +10,10 @@ use Rattle.decomposition.specs.Known.{openedDecomposition}
 use Rattle.eigenvalues.specs.Known.{openedReaders}
 use Rattle.words.specs.Words.{le64, byteOf}
 use Rattle.words.specs.Floats.{floatsOf, zeros}
+use Rattle.header.specs.Record.{le16, le32, headerOf, headerChecks, recordChecks, byChecks, examined}
 use Rattle.record.specs.Text.{ascii, decimalIn, decimal, hexadecimal, refusedLine, passesLine, entryLine}
-use Rattle.record.specs.Text.{eigenvalueLine, joined, matrixLines, eigenvalueLines}
-use Rattle.record.specs.Record.{le16, le32, headerOf, headerChecks, recordChecks}
-use Rattle.record.specs.Answer.{eigenvaluesText, readText, decomposedText, decomposed, matrixText, checkedText}
+use Rattle.record.specs.Text.{newline, eigenvalueLine, joined, matrixLines, eigenvalueLines}
+use Rattle.record.specs.Answer.{eigenvaluesText, readText, decomposedText, decomposed, matrixText, examinedText}
 use Rattle.record.specs.Answer.{textOf}
 
 -- w in k bytes
@@ -29,13 +29,18 @@ recorded : ℕ → ℕ → ℕ → ℕ → ℕ → List ℕ → List ℕ
 recorded length kind order budget tolerance m =
     bytes 4 length ++ bytes 2 kind ++ bytes 2 order ++ bytes 4 budget ++ bytes 8 tolerance ++ entries m
 
+-- lines, one behind the other
+lined : List String → List ℕ
+lined [] = []
+lined (s ∷ t) = ascii s ++ newline ++ lined t
+
 -- every definition that a case computes with
 unfoldable openedRecord : Unit {0}
-unfolding openedDecomposition openedReaders table le64 byteOf floatsOf zeros bytes entries recorded
+unfolding openedDecomposition openedReaders table le64 byteOf floatsOf zeros bytes entries recorded lined
     ascii decimalIn decimal hexadecimal refusedLine passesLine entryLine eigenvalueLine joined matrixLines
     eigenvalueLines
-    le16 le32 headerOf headerChecks recordChecks eigenvaluesText readText decomposedText decomposed matrixText
-    checkedText textOf
+    le16 le32 headerOf headerChecks recordChecks byChecks examined eigenvaluesText readText decomposedText decomposed
+    matrixText examinedText textOf
 openedRecord = tt
 
 -- ---- the sample: order 2, budget 1, tolerance 0, entries 2 0 0 3
@@ -43,8 +48,19 @@ openedRecord = tt
 sample : List ℕ
 sample = recorded 48 1 2 1 0 (0x4000000000000000 ∷ 0 ∷ 0 ∷ 0x4008000000000000 ∷ [])
 
-sample-text : textOf sample ≡ ascii
-    "order 2 passes 0\nt 0 0 4000000000000000\nt 1 0 0000000000000000\nt 0 1 0000000000000000\nt 1 1 4008000000000000\nq 0 0 3ff0000000000000\nq 1 0 0000000000000000\nq 0 1 0000000000000000\nq 1 1 3ff0000000000000\ne 0 4000000000000000 0000000000000000\ne 1 4008000000000000 0000000000000000\n"
+sample-text : textOf sample ≡ lined (
+    "order 2 passes 0"
+    ∷ "t 0 0 4000000000000000"
+    ∷ "t 1 0 0000000000000000"
+    ∷ "t 0 1 0000000000000000"
+    ∷ "t 1 1 4008000000000000"
+    ∷ "q 0 0 3ff0000000000000"
+    ∷ "q 1 0 0000000000000000"
+    ∷ "q 0 1 0000000000000000"
+    ∷ "q 1 1 3ff0000000000000"
+    ∷ "e 0 4000000000000000 0000000000000000"
+    ∷ "e 1 4008000000000000 0000000000000000"
+    ∷ [])
 unfolding openedRecord sample
 sample-text = refl
 
@@ -114,7 +130,17 @@ known = refl
 
 -- a block of two, rows (5e299 -1e300), (1e300 -5e299), whose discriminant is NaN
 not-read : textOf (recorded 48 1 2 1 0 (0x7e27e43c8800759c ∷ 0x7e37e43c8800759c ∷ 0xfe37e43c8800759c
-    ∷ 0xfe27e43c8800759c ∷ [])) ≡ ascii
-    "order 2 passes 0\nt 0 0 7e27e43c8800759c\nt 1 0 7e37e43c8800759c\nt 0 1 fe37e43c8800759c\nt 1 1 fe27e43c8800759c\nq 0 0 3ff0000000000000\nq 1 0 0000000000000000\nq 0 1 0000000000000000\nq 1 1 3ff0000000000000\neigenvalues refused 11 0 0\n"
+    ∷ 0xfe27e43c8800759c ∷ [])) ≡ lined (
+    "order 2 passes 0"
+    ∷ "t 0 0 7e27e43c8800759c"
+    ∷ "t 1 0 7e37e43c8800759c"
+    ∷ "t 0 1 fe37e43c8800759c"
+    ∷ "t 1 1 fe27e43c8800759c"
+    ∷ "q 0 0 3ff0000000000000"
+    ∷ "q 1 0 0000000000000000"
+    ∷ "q 0 1 0000000000000000"
+    ∷ "q 1 1 3ff0000000000000"
+    ∷ "eigenvalues refused 11 0 0"
+    ∷ [])
 unfolding openedRecord
 not-read = refl

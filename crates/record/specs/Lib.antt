@@ -1,9 +1,8 @@
--- The record of the program `looproots`, and the text that is printed for it. `Text`: numbers and lines; `Record`: the
--- header, and what is checked of it; `Answer`: the text of a record; `Reading`: what one read of the input comes to.
--- `Known` has worked cases, and `Page` is what the text is put on.
+-- The text that is printed for a record of the program `looproots`. `Text`: numbers and lines; `Answer`: the text of a
+-- record; `Page`: what the text is put on. `Known` has worked cases, and `Lent` serves the contracts of private
+-- functions.
 pub mod Text
 pub mod Page
-pub mod Record
+pub mod Lent
 pub mod Answer
-pub mod Reading
 pub mod Known

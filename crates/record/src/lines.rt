@@ -1,6 +1,5 @@
 // The lines of the text. Each function puts its line or lines into the text from a place on, and answers the place
 // behind them.
-ghost use mathlib.Core.Path.{_≡_};
 ghost use mathlib.Core.List.{_++_};
 ghost use Prim.Native.Nat.{_+_, _*_, _<_, _≤_};
 ghost use lib.ListN.{length};
@@ -8,7 +7,8 @@ ghost use lib.Ieee.{binary64, toBits};
 ghost use Rattle.refusal.specs.Refusal.{toldOf};
 ghost use Rattle.record.specs.Text.{decimal, ascii, number, pattern, refusedLine, passesLine, entryLine};
 ghost use Rattle.record.specs.Text.{eigenvalueLine, matrixLines, eigenvalueLines};
-ghost use Rattle.record.specs.Page.{page, more};
+ghost use Rattle.record.specs.Page.{page, Put};
+ghost use Rattle.record.specs.Lent.{MatrixLent, EigenvaluesLent};
 use crate::page::put;
 use crate::page::put_byte;
 use crate::page::put_decimal;
@@ -19,8 +19,9 @@ use refusal::Told;
 // A space and a number; any of 64 bits has 20 digits at most.
 fn put_number(text: &mut [u8], at: usize, n: u64) -> usize
     requires { ⌜ at + 1 + length (decimal n) ≤ length (now text) ⌝ }
-    ensures { λ r. ⌜ page r (now (text .exit)) ≡ more (number n) (page at (now (text .entry))) ⌝ }
-    ensures { λ r. ⌜ r ≡ at + 1 + length (decimal n) ⌝ }
+    ensures { λ r. ⌜ Put (number n) (1 + length (decimal n))
+        (page at (now (text .entry)))
+        (page r (now (text .exit))) ⌝ }
 {
     let behind = put_byte(text, at, b' ');
     put_decimal(text, behind, n)
@@ -29,8 +30,7 @@ fn put_number(text: &mut [u8], at: usize, n: u64) -> usize
 // A space and a pattern.
 fn put_pattern(text: &mut [u8], at: usize, w: u64) -> usize
     requires { ⌜ at + 17 ≤ length (now text) ⌝ }
-    ensures { λ r. ⌜ page r (now (text .exit)) ≡ more (pattern w) (page at (now (text .entry))) ⌝ }
-    ensures { λ r. ⌜ r ≡ at + 17 ⌝ }
+    ensures { λ r. ⌜ Put (pattern w) 17 (page at (now (text .entry))) (page r (now (text .exit))) ⌝ }
 {
     let behind = put_byte(text, at, b' ');
     put_hexadecimal(text, behind, w)
@@ -38,8 +38,7 @@ fn put_pattern(text: &mut [u8], at: usize, w: u64) -> usize
 
 fn put_told(text: &mut [u8], at: usize, x: Told) -> usize
     requires { ⌜ at + 71 ≤ length (now text) ⌝ }
-    ensures { λ r. ⌜ page r (now (text .exit)) ≡ more (refusedLine x) (page at (now (text .entry))) ⌝ }
-    ensures { λ r. ⌜ r ≤ at + 71 ⌝ }
+    ensures { λ r. ⌜ Put (refusedLine x) 71 (page at (now (text .entry))) (page r (now (text .exit))) ⌝ }
 {
     let a = put(text, at, b"refused");
     let b = put_number(text, a, x.number);
@@ -50,16 +49,14 @@ fn put_told(text: &mut [u8], at: usize, x: Told) -> usize
 
 pub(crate) fn put_refused(text: &mut [u8], at: usize, r: Refusal) -> usize
     requires { ⌜ at + 71 ≤ length (now text) ⌝ }
-    ensures { λ x. ⌜ page x (now (text .exit)) ≡ more (refusedLine (toldOf r)) (page at (now (text .entry))) ⌝ }
-    ensures { λ x. ⌜ x ≤ at + 71 ⌝ }
+    ensures { λ x. ⌜ Put (refusedLine (toldOf r)) 71 (page at (now (text .entry))) (page x (now (text .exit))) ⌝ }
 {
     put_told(text, at, refusal::tell(r))
 }
 
 pub(crate) fn put_passes(text: &mut [u8], at: usize, n: usize, passes: u64) -> usize
     requires { ⌜ at + 55 ≤ length (now text) ⌝ }
-    ensures { λ r. ⌜ page r (now (text .exit)) ≡ more (passesLine n passes) (page at (now (text .entry))) ⌝ }
-    ensures { λ r. ⌜ r ≤ at + 55 ⌝ }
+    ensures { λ r. ⌜ Put (passesLine n passes) 55 (page at (now (text .entry))) (page r (now (text .exit))) ⌝ }
 {
     let a = put(text, at, b"order");
     let b = put_number(text, a, n as u64);
@@ -70,9 +67,9 @@ pub(crate) fn put_passes(text: &mut [u8], at: usize, n: usize, passes: u64) -> u
 
 fn put_entry(text: &mut [u8], at: usize, letter: u8, row: usize, col: usize, x: f64) -> usize
     requires { ⌜ (at + 25 ≤ length (now text)) × (row < 32) × (col < 32) ⌝ }
-    ensures { λ r. ⌜ page r (now (text .exit))
-        ≡ more (entryLine letter row col (toBits binary64 x)) (page at (now (text .entry))) ⌝ }
-    ensures { λ r. ⌜ r ≤ at + 25 ⌝ }
+    ensures { λ r. ⌜ Put (entryLine letter row col (toBits binary64 x)) 25
+        (page at (now (text .entry)))
+        (page r (now (text .exit))) ⌝ }
 {
     let a = put_byte(text, at, letter);
     let b = put_number(text, a, row as u64);
@@ -83,10 +80,10 @@ fn put_entry(text: &mut [u8], at: usize, letter: u8, row: usize, col: usize, x: 
 
 // Column by column: at most 1024 lines of 25 bytes.
 pub(crate) fn put_matrix(text: &mut [u8], at: usize, letter: u8, n: usize, a: &[f64]) -> usize
-    requires { ⌜ (at + 25600 ≤ length (now text)) × (n ≤ 32) × (length (now a) ≡ n * n) ⌝ }
-    ensures { λ r. ⌜ page r (now (text .exit))
-        ≡ more (matrixLines letter n (now (a .entry))) (page at (now (text .entry))) ⌝ }
-    ensures { λ r. ⌜ r ≤ at + 25600 ⌝ }
+    requires { ⌜ MatrixLent n (page at (now text)) (now a) ⌝ }
+    ensures { λ r. ⌜ Put (matrixLines letter n (now (a .entry))) 25600
+        (page at (now (text .entry)))
+        (page r (now (text .exit))) ⌝ }
 {
     let mut behind = at;
     for k in 0..a.len() {
@@ -97,9 +94,9 @@ pub(crate) fn put_matrix(text: &mut [u8], at: usize, letter: u8, n: usize, a: &[
 
 fn put_eigenvalue(text: &mut [u8], at: usize, k: usize, re: f64, im: f64) -> usize
     requires { ⌜ (at + 39 ≤ length (now text)) × (k < 32) ⌝ }
-    ensures { λ r. ⌜ page r (now (text .exit))
-        ≡ more (eigenvalueLine k (toBits binary64 re) (toBits binary64 im)) (page at (now (text .entry))) ⌝ }
-    ensures { λ r. ⌜ r ≤ at + 39 ⌝ }
+    ensures { λ r. ⌜ Put (eigenvalueLine k (toBits binary64 re) (toBits binary64 im)) 39
+        (page at (now (text .entry)))
+        (page r (now (text .exit))) ⌝ }
 {
     let a = put(text, at, b"e");
     let b = put_number(text, a, k as u64);
@@ -109,10 +106,10 @@ fn put_eigenvalue(text: &mut [u8], at: usize, k: usize, re: f64, im: f64) -> usi
 }
 
 pub(crate) fn put_eigenvalues(text: &mut [u8], at: usize, n: usize, re: &[f64], im: &[f64]) -> usize
-    requires { ⌜ (at + 39 * n ≤ length (now text)) × (n ≤ 32) × (length (now re) ≡ n) × (length (now im) ≡ n) ⌝ }
-    ensures { λ r. ⌜ page r (now (text .exit))
-        ≡ more (eigenvalueLines n (now (re .entry)) (now (im .entry))) (page at (now (text .entry))) ⌝ }
-    ensures { λ r. ⌜ r ≤ at + 39 * n ⌝ }
+    requires { ⌜ EigenvaluesLent n (39 * n) (page at (now text)) (now re) (now im) ⌝ }
+    ensures { λ r. ⌜ Put (eigenvalueLines n (now (re .entry)) (now (im .entry))) (39 * n)
+        (page at (now (text .entry)))
+        (page r (now (text .exit))) ⌝ }
 {
     let mut behind = at;
     for k in 0..n {
@@ -123,9 +120,9 @@ pub(crate) fn put_eigenvalues(text: &mut [u8], at: usize, n: usize, re: &[f64], 
 
 pub(crate) fn put_not_read(text: &mut [u8], at: usize, r: Refusal) -> usize
     requires { ⌜ at + 83 ≤ length (now text) ⌝ }
-    ensures { λ x. ⌜ page x (now (text .exit))
-        ≡ more (ascii "eigenvalues " ++ refusedLine (toldOf r)) (page at (now (text .entry))) ⌝ }
-    ensures { λ x. ⌜ x ≤ at + 83 ⌝ }
+    ensures { λ x. ⌜ Put (ascii "eigenvalues " ++ refusedLine (toldOf r)) 83
+        (page at (now (text .entry)))
+        (page x (now (text .exit))) ⌝ }
 {
     let behind = put(text, at, b"eigenvalues ");
     put_refused(text, behind, r)

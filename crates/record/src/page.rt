@@ -1,15 +1,13 @@
 // Text put into a slice of bytes, from a place on. Each function answers the place behind what it has put.
-ghost use mathlib.Core.Path.{_≡_};
 ghost use mathlib.Core.List.{[], _∷_};
 ghost use Prim.Native.Nat.{_+_, _<_, _≤_};
 ghost use lib.ListN.{length};
 ghost use Rattle.record.specs.Text.{decimal, hexadecimal};
-ghost use Rattle.record.specs.Page.{page, more};
+ghost use Rattle.record.specs.Page.{page, Put};
 
 pub(crate) fn put_byte(text: &mut [u8], at: usize, b: u8) -> usize
     requires { ⌜ at < length (now text) ⌝ }
-    ensures { λ r. ⌜ page r (now (text .exit)) ≡ more (b ∷ []) (page at (now (text .entry))) ⌝ }
-    ensures { λ r. ⌜ r ≡ at + 1 ⌝ }
+    ensures { λ r. ⌜ Put (b ∷ []) 1 (page at (now (text .entry))) (page r (now (text .exit))) ⌝ }
 {
     text[at] = b;
     at + 1
@@ -17,8 +15,9 @@ pub(crate) fn put_byte(text: &mut [u8], at: usize, b: u8) -> usize
 
 pub(crate) fn put(text: &mut [u8], at: usize, s: &[u8]) -> usize
     requires { ⌜ at + length (now s) ≤ length (now text) ⌝ }
-    ensures { λ r. ⌜ page r (now (text .exit)) ≡ more (now (s .entry)) (page at (now (text .entry))) ⌝ }
-    ensures { λ r. ⌜ r ≡ at + length (now (s .entry)) ⌝ }
+    ensures { λ r. ⌜ Put (now (s .entry)) (length (now (s .entry)))
+        (page at (now (text .entry)))
+        (page r (now (text .exit))) ⌝ }
 {
     for i in 0..s.len() {
         text[at + i] = s[i];
@@ -28,8 +27,9 @@ pub(crate) fn put(text: &mut [u8], at: usize, s: &[u8]) -> usize
 
 pub(crate) fn put_decimal(text: &mut [u8], at: usize, n: u64) -> usize
     requires { ⌜ at + length (decimal n) ≤ length (now text) ⌝ }
-    ensures { λ r. ⌜ page r (now (text .exit)) ≡ more (decimal n) (page at (now (text .entry))) ⌝ }
-    ensures { λ r. ⌜ r ≡ at + length (decimal n) ⌝ }
+    ensures { λ r. ⌜ Put (decimal n) (length (decimal n))
+        (page at (now (text .entry)))
+        (page r (now (text .exit))) ⌝ }
 {
     let mut digits = [0u8; 20];
     let k = io::decimal(n, &mut digits);
@@ -38,8 +38,7 @@ pub(crate) fn put_decimal(text: &mut [u8], at: usize, n: u64) -> usize
 
 pub(crate) fn put_hexadecimal(text: &mut [u8], at: usize, w: u64) -> usize
     requires { ⌜ at + 16 ≤ length (now text) ⌝ }
-    ensures { λ r. ⌜ page r (now (text .exit)) ≡ more (hexadecimal w) (page at (now (text .entry))) ⌝ }
-    ensures { λ r. ⌜ r ≡ at + 16 ⌝ }
+    ensures { λ r. ⌜ Put (hexadecimal w) 16 (page at (now (text .entry))) (page r (now (text .exit))) ⌝ }
 {
     let mut digits = [0u8; 16];
     let k = io::hex(w, 16, &mut digits);

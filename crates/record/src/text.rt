@@ -1,26 +1,25 @@
 // The text for a record: the header is checked, the matrix decomposed, T, Q and the eigenvalues are written out.
 ghost use mathlib.Core.Path.{_≡_};
-ghost use Prim.Native.Nat.{_+_, _*_, _≤_};
-ghost use lib.ListN.{length};
+ghost use Prim.Native.Nat.{_+_, _≤_};
+ghost use lib.ListN.{length, replicate};
 ghost use Rattle.io.specs.Counts.{Counts};
 ghost use Rattle.pass.specs.Pair.{pair};
-ghost use Rattle.words.specs.Floats.{floatsOf, zeros};
+ghost use Rattle.words.specs.Floats.{floatsOf};
 ghost use Rattle.decomposition.specs.declared.Decomposed.the-variants.{Accepted};
 ghost use Rattle.decomposition.specs.Decomposition.{outcome};
-ghost use Rattle.record.specs.Page.{page, printed, more};
+ghost use Rattle.record.specs.Page.{page, printed, Put};
+ghost use Rattle.record.specs.Lent.{EigenvaluesLent, PairLent, RoomsLent, RecordLent};
 ghost use Rattle.record.specs.Answer.{eigenvaluesText, readText, decomposedText, decomposed, matrixText, textOf};
-use crate::header::Header;
-use crate::header::check;
-use crate::header::read_header;
 use crate::lines::put_eigenvalues;
 use crate::lines::put_matrix;
 use crate::lines::put_not_read;
 use crate::lines::put_passes;
 use crate::lines::put_refused;
 use decomposition::Decomposed;
+use header::Examined;
+use header::Header;
 use pass::Setting;
 use refusal::Checked;
-use refusal::Refusal;
 
 // What the complex reader has answered.
 fn put_answer(
@@ -31,10 +30,10 @@ fn put_answer(
     re: &[f64],
     im: &[f64],
 ) -> usize
-    requires { ⌜ (at + 1331 ≤ length (now text)) × (n ≤ 32) × (length (now re) ≡ n) × (length (now im) ≡ n) ⌝ }
-    ensures { λ r. ⌜ page r (now (text .exit))
-        ≡ more (eigenvaluesText n checked (now (re .entry)) (now (im .entry))) (page at (now (text .entry))) ⌝ }
-    ensures { λ r. ⌜ r ≤ at + 1331 ⌝ }
+    requires { ⌜ EigenvaluesLent n 1331 (page at (now text)) (now re) (now im) ⌝ }
+    ensures { λ r. ⌜ Put (eigenvaluesText n checked (now (re .entry)) (now (im .entry))) 1331
+        (page at (now (text .entry)))
+        (page r (now (text .exit))) ⌝ }
 {
     match checked {
         Checked::Passed => put_eigenvalues(text, at, n, re, im),
@@ -45,8 +44,9 @@ fn put_answer(
 // The eigenvalues of T. Their lists begin as zeros, with room for order 32: what is needed is cut off.
 fn put_read(text: &mut [u8], at: usize, n: usize, t: &[f64]) -> usize
     requires { ⌜ (at + 1331 ≤ length (now text)) × (n ≤ 32) ⌝ }
-    ensures { λ r. ⌜ page r (now (text .exit)) ≡ more (readText n (now (t .entry))) (page at (now (text .entry))) ⌝ }
-    ensures { λ r. ⌜ r ≤ at + 1331 ⌝ }
+    ensures { λ r. ⌜ Put (readText n (now (t .entry))) 1331
+        (page at (now (text .entry)))
+        (page r (now (text .exit))) ⌝ }
 {
     let mut re_room = [0.0f64; 32];
     let mut im_room = [0.0f64; 32];
@@ -58,11 +58,10 @@ fn put_read(text: &mut [u8], at: usize, n: usize, t: &[f64]) -> usize
 
 // An accepted decomposition.
 fn put_accepted(text: &mut [u8], n: usize, passes: u64, t: &[f64], q: &[f64]) -> usize
-    requires { ⌜ (65536 ≤ length (now text)) × (n ≤ 32) × (length (now t) ≡ n * n) × (length (now q) ≡ n * n) ⌝ }
-    ensures { λ r. ⌜ page r (now (text .exit))
-        ≡ more (decomposedText n (Accepted passes) (pair (now (t .entry)) (now (q .entry))))
-        (page 0 (now (text .entry))) ⌝ }
-    ensures { λ r. ⌜ r ≤ 65536 ⌝ }
+    requires { ⌜ PairLent n (now text) (pair (now t) (now q)) ⌝ }
+    ensures { λ r. ⌜ Put (decomposedText n (Accepted passes) (pair (now (t .entry)) (now (q .entry)))) 65536
+        (page 0 (now (text .entry)))
+        (page r (now (text .exit))) ⌝ }
 {
     let a = put_passes(text, 0, n, passes);
     let b = put_matrix(text, a, b't', n, t);
@@ -72,10 +71,10 @@ fn put_accepted(text: &mut [u8], n: usize, passes: u64, t: &[f64], q: &[f64]) ->
 
 // What the decomposition has answered, and left as T and Q.
 fn put_decomposed(text: &mut [u8], n: usize, answer: Decomposed, t: &[f64], q: &[f64]) -> usize
-    requires { ⌜ (65536 ≤ length (now text)) × (n ≤ 32) × (length (now t) ≡ n * n) × (length (now q) ≡ n * n) ⌝ }
-    ensures { λ r. ⌜ page r (now (text .exit))
-        ≡ more (decomposedText n answer (pair (now (t .entry)) (now (q .entry)))) (page 0 (now (text .entry))) ⌝ }
-    ensures { λ r. ⌜ r ≤ 65536 ⌝ }
+    requires { ⌜ PairLent n (now text) (pair (now t) (now q)) ⌝ }
+    ensures { λ r. ⌜ Put (decomposedText n answer (pair (now (t .entry)) (now (q .entry)))) 65536
+        (page 0 (now (text .entry)))
+        (page r (now (text .exit))) ⌝ }
 {
     match answer {
         Decomposed::Accepted(passes) => put_accepted(text, n, passes, t, q),
@@ -91,9 +90,7 @@ fn decompose(
     q: &mut [f64],
     work: &mut [f64],
 ) -> Decomposed
-    requires { ⌜ (length (now entries) ≡ 8 * (h .order * h .order)) × (length (now t) ≡ h .order * h .order)
-        × (now q ≡ zeros (h .order * h .order))
-        × (now work ≡ zeros (2 * h .order)) ⌝ }
+    requires { ⌜ RoomsLent (h .order) (now entries) (now t) (now q) (now work) ⌝ }
     ensures { λ r. ⌜ outcome r (pair (now (t .exit)) (now (q .exit))) (now (work .exit))
         ≡ decomposed h (floatsOf (now (entries .entry))) ⌝ }
 {
@@ -106,12 +103,12 @@ fn decompose(
     decomposition::try_new_in_place(t, q, asked, h.budget, work)
 }
 
-// The header has passed its checks. T, Q and the workspace too begin as zeros, with room for order 32.
+// A record without fault. T, Q and the workspace too begin as zeros, with room for order 32.
 fn put_passed(text: &mut [u8], h: Header, entries: &[u8]) -> usize
-    requires { ⌜ (65536 ≤ length (now text)) × (h .order ≤ 32) × (length (now entries) ≡ 8 * (h .order * h .order)) ⌝ }
-    ensures { λ r. ⌜ page r (now (text .exit))
-        ≡ more (matrixText h (floatsOf (now (entries .entry)))) (page 0 (now (text .entry))) ⌝ }
-    ensures { λ r. ⌜ r ≤ 65536 ⌝ }
+    requires { ⌜ RecordLent (h .order) (now text) (now entries) ⌝ }
+    ensures { λ r. ⌜ Put (matrixText h (floatsOf (now (entries .entry)))) 65536
+        (page 0 (now (text .entry)))
+        (page r (now (text .exit))) ⌝ }
 {
     let n = h.order;
     let k = n * n;
@@ -125,17 +122,12 @@ fn put_passed(text: &mut [u8], h: Header, entries: &[u8]) -> usize
     put_decomposed(text, n, answer, t, q)
 }
 
-// A record with a whole header.
-fn put_record(text: &mut [u8], input: &[u8]) -> usize
-    requires { ⌜ (65536 ≤ length (now text)) × (20 ≤ length (now input)) ⌝ }
-    ensures { λ r. ⌜ page r (now (text .exit)) ≡ more (textOf (now (input .entry))) (page 0 (now (text .entry))) ⌝ }
-    ensures { λ r. ⌜ r ≤ 65536 ⌝ }
+// Room for an input: one byte more than the longest record, so that a longer input is seen to be longer.
+pub fn room() -> [u8; 8213]
+    ensures { λ r. ⌜ r ≡ replicate 8213 0 ⌝ }
+    ensures { λ r. ⌜ 8213 ≡ length r ⌝ }
 {
-    let h = read_header(input);
-    match check(h, input.len() as u64) {
-        Checked::Refused(r) => put_refused(text, 0, r),
-        Checked::Passed => put_passed(text, h, &input[20..]),
-    }
+    [0; 8213]
 }
 
 // The text for an input, whatever its bytes are, at the front of `text`; its length is answered. Where less than
@@ -147,8 +139,8 @@ pub fn answer(input: &[u8], text: &mut [u8]) -> usize
     if text.len() < 65536 {
         return 0;
     }
-    if input.len() < 20 {
-        return put_refused(text, 0, Refusal::InputCutShort);
+    match header::examine(input) {
+        Examined::Unfit(r) => put_refused(text, 0, r),
+        Examined::Fit(h) => put_passed(text, h, &input[20..]),
     }
-    put_record(text, input)
 }

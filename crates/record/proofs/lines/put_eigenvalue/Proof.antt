@@ -1,11 +1,9 @@
 -- `record::lines::put_eigenvalue` meets its contract. Assumes nothing.
 use native.Mathlib.Omega.{arith}
 use borrow.Author.Needs.{needs}
-use lib.Ieee.{binary64, toBits}
 use Prim.Native.Nat.{_≤_}
 use lib.ListN.{length}
-use Rattle.record.specs.Text.{ascii, decimal, number, pattern, newline, eigenvalueLine}
-use Rattle.record.specs.Page.{page}
+use Rattle.record.specs.Text.{ascii, decimal, eigenvalueLine}
 use Rattle.record.proofs.Digits.{decimal-32}
 use Rattle.record.proofs.Paging.{line-put}
 use Rattle.record.proofs.lines.put_eigenvalue.Statement.{statement}
@@ -25,13 +23,10 @@ returns c =
     let after-put-number : tie.After-put-number = search in
     let after-put : tie.After-put = search in
     let start : tie.Start = search in
-    let x = start .args in (
-      line-put (page (x .at) (x .text .now)) (ascii "e") (number (x .k)) (pattern (toBits binary64 (x .re))) (pattern (toBits binary64 (x .im))) newline
-          (after-put .put .ensures .0) (after-put-number .put-number .ensures .0)
-          (rw (after-bits-of .bits-of .ensures) at (after-put-pattern .put-pattern .ensures .0))
-          (rw (after-bits-of2 .bits-of2 .ensures) at (after-put-pattern2 .put-pattern2 .ensures .0)) (c .before .before .put-byte .ensures .0),
-      omega (arith, digits start),
-    )
+    line-put (after-put .put .ensures) (after-put-number .put-number .ensures)
+    (rw (after-bits-of .bits-of .ensures) at (after-put-pattern .put-pattern .ensures))
+    (rw (after-bits-of2 .bits-of2 .ensures) at (after-put-pattern2 .put-pattern2 .ensures)) (c .before .before .put-byte .ensures)
+    (omega (arith, digits start))
 
 pub put-eigenvalue-spec : {M : Type 1} → statement M
 put-eigenvalue-spec = tie.close (tie.spec (λ c. search needs)

@@ -1,12 +1,9 @@
 -- `record::lines::put_entry` meets its contract. Assumes nothing.
 use native.Mathlib.Omega.{arith}
 use borrow.Author.Needs.{needs}
-use mathlib.Core.List.{[], _∷_}
-use lib.Ieee.{binary64, toBits}
 use Prim.Native.Nat.{_≤_}
 use lib.ListN.{length}
-use Rattle.record.specs.Text.{decimal, number, pattern, newline, entryLine}
-use Rattle.record.specs.Page.{page}
+use Rattle.record.specs.Text.{decimal, entryLine}
 use Rattle.record.proofs.Digits.{decimal-32}
 use Rattle.record.proofs.Paging.{line-put}
 use Rattle.record.proofs.lines.put_entry.Statement.{statement}
@@ -25,12 +22,9 @@ returns c =
     let after-put-number : tie.After-put-number = search in
     let after-put-byte : tie.After-put-byte = search in
     let start : tie.Start = search in
-    let x = start .args in (
-      line-put (page (x .at) (x .text .now)) (x .letter ∷ []) (number (x .row)) (number (x .col)) (pattern (toBits binary64 (x .x))) newline
-          (after-put-byte .put-byte .ensures .0) (after-put-number .put-number .ensures .0) (after-put-number2 .put-number2 .ensures .0)
-          (rw (after-bits-of .bits-of .ensures) at (after-put-pattern .put-pattern .ensures .0)) (c .before .before .put-byte2 .ensures .0),
-      omega (arith, digits start),
-    )
+    line-put (after-put-byte .put-byte .ensures) (after-put-number .put-number .ensures) (after-put-number2 .put-number2 .ensures)
+    (rw (after-bits-of .bits-of .ensures) at (after-put-pattern .put-pattern .ensures)) (c .before .before .put-byte2 .ensures)
+    (omega (arith, digits start))
 
 pub put-entry-spec : {M : Type 1} → statement M
 put-entry-spec = tie.close (tie.spec (λ c κs. omega arith)

@@ -3,8 +3,7 @@ use native.Mathlib.Omega.{arith}
 use borrow.Author.Needs.{needs}
 use Prim.Native.Nat.{_≤_}
 use lib.ListN.{length}
-use Rattle.record.specs.Text.{ascii, decimal, number, newline, passesLine}
-use Rattle.record.specs.Page.{page}
+use Rattle.record.specs.Text.{ascii, decimal, passesLine}
 use Rattle.record.proofs.Digits.{decimal-64}
 use Rattle.record.proofs.Paging.{line-put}
 use Rattle.record.proofs.lines.put_passes.Statement.{statement}
@@ -22,12 +21,8 @@ returns c =
     let after-put-number : tie.After-put-number = search in
     let after-put : tie.After-put = search in
     let start : tie.Start = search in
-    let x = start .args in (
-      line-put (page (x .at) (x .text .now)) (ascii "order") (number (x .n)) (ascii " passes") (number (x .passes)) newline
-          (after-put .put .ensures .0) (after-put-number .put-number .ensures .0) (after-put2 .put2 .ensures .0) (after-put-number2 .put-number2 .ensures .0)
-          (c .before .before .put-byte .ensures .0),
-      omega (arith, digits start),
-    )
+    line-put (after-put .put .ensures) (after-put-number .put-number .ensures) (after-put2 .put2 .ensures) (after-put-number2 .put-number2 .ensures)
+    (c .before .before .put-byte .ensures) (omega (arith, digits start))
 
 pub put-passes-spec : {M : Type 1} → statement M
 put-passes-spec = tie.close (tie.spec (λ c. search needs)

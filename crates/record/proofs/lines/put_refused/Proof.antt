@@ -6,4 +6,4 @@ use Rattle.record.proofs.lines.put_refused.Tie as tie
 
 pub put-refused-spec : {M : Type 1} → statement M
 put-refused-spec = tie.close (tie.spec (λ c κs. search needs) (λ c κs. omega arith) (λ c. search needs)
-    (λ c. (rw (c .before .before .before .tell .ensures) at (c .before .before .put-told .ensures .0), omega arith)))
+    (λ c. rw (c .before .before .before .tell .ensures) at (c .before .before .put-told .ensures)))

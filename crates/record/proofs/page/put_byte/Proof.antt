@@ -8,7 +8,7 @@ use Rattle.record.proofs.page.put_byte.Tie as tie
 
 returns : tie.Need-returns
 unfolding more
-returns c = (refl, refl)
+returns c = record { text = refl; end = omega arith }
 
 pub put-byte-spec : {M : Type 1} → statement M
 put-byte-spec = tie.close (tie.spec (λ c. omega arith) (λ c. omega arith) (λ c. simp length-set) returns)

@@ -15,7 +15,7 @@ put-requires : tie.Need-put-requires
 put-requires c κs = rw (made (search)) (omega (arith))
 
 returns : tie.Need-returns
-returns c = (rw (made (search)) at (c .before .before .put .ensures .0), rw (made (search)) at (c .before .before .put .ensures .1))
+returns c = rw (made (search)) at (c .before .before .put .ensures)
 
 pub put-decimal-spec : {M : Type 1} → statement M
 put-decimal-spec = tie.close (tie.spec (λ c κs. search needs) (λ c. search needs) (λ c. search needs) put-requires (λ c. search needs) returns)

@@ -17,7 +17,7 @@ put-requires c κs =
     rw (made (search)) (omega (arith, hexadecimal-length (start .args .w)))
 
 returns : tie.Need-returns
-returns c = (rw (made (search)) at (c .before .before .put .ensures .0), rw (made (search), hexadecimal-length) at (c .before .before .put .ensures .1))
+returns c = rw (made (search), hexadecimal-length) at (c .before .before .put .ensures)
 
 pub put-hexadecimal-spec : {M : Type 1} → statement M
 put-hexadecimal-spec = tie.close (tie.spec (λ c κs. search needs) (λ c. search needs) (λ c. search needs) put-requires (λ c. search needs) returns)

@@ -1,33 +1,55 @@
 -- `record::text::answer` meets its contract. Assumes nothing.
-use mathlib.Core.Path.{refl, sym, ap, _∙_}
+use Prim.Native.Nat.{ℕ, _-_}
+use mathlib.Core.Path.{_≡_, refl, sym, _∙_}
+use mathlib.Core.List.{List}
 use native.Mathlib.Omega.{arith}
 use borrow.Author.Needs.{needs}
-use lib.Seq.{length-take-le}
-use Rattle.record.specs.Page.{page, more}
-use Rattle.record.proofs.Paging.{all-printed, none-printed}
-use Rattle.record.proofs.CheckedHeader.{short-text}
+use lib.ListN.{length, take, drop, length-drop}
+use lib.Seq.{length-take-le, take-all}
+use Rattle.header.proofs.Fitting.{Fitting, fitting}
+use Rattle.record.specs.Answer.{examinedText, textOf}
+use Rattle.record.proofs.Paging.{put-within, all-printed, none-printed}
 use Rattle.record.proofs.text.answer.Statement.{statement}
 use Rattle.record.proofs.text.answer.Tie as tie
 
-returns : tie.Need-returns
-returns c = let x = c .before .before .before .args in (none-printed _ (x .text .now) (c .if1 .taken), (omega arith, refl))
+-- a record without fault is as long as its order says
+fit : (c : tie.After-h) → Fitting (c .h .given .0 .0) (length (c .before .before .before .before .before .before .args .input .now))
+fit c = let examine : tie.After-examine = search in fitting _ (sym (examine .examine .ensures) ∙ c .h .given .1)
 
-returns-2 : tie.Need-returns-2
-returns-2 c =
+-- all that lies behind a header
+entries : (b : List ℕ) → take (length b - 20) (drop 20 b) ≡ drop 20 b
+entries b = take-all (length b - 20) (drop 20 b) (omega (arith, length-drop 20 b))
+
+requires : tie.Need-put-passed-requires
+requires c κs =
+    let start : tie.Start = search in
+    let b = start .args .input .now in
+    let f = fit (search) in
+    record { room = omega arith; order = f .order; whole = rw (entries b) (omega (arith, length-drop 20 b)) }
+
+short : tie.Need-returns
+short c = let start : tie.Start = search in (none-printed _ (start .args .text .now) (c .if1 .taken), (omega arith, refl))
+
+unfit : tie.Need-returns-2
+unfolding textOf examinedText
+unfit c =
     let put : tie.After-put-refused = search in
-    let short : tie.Then2 = search in
-    let x = short .before .before .before .before .args in (
-      all-printed _ (x .text .now) (short .before .if1 .left) (omega arith)
-          (put .put-refused .ensures .0 ∙ ap (λ s. more s (page 0 (x .text .now))) (sym (short-text (x .input .now) (short .if2 .taken)))),
+    let told : tie.After-r = search in
+    let examine : tie.After-examine = search in (
+      rw (← examine .examine .ensures, told .r .given .1) (all-printed (omega arith) (put-within (omega arith) (put .put-refused .ensures))),
       (omega arith, sym (length-take-le _ _ (omega arith))),
     )
 
-returns-3 : tie.Need-returns-3
-returns-3 c =
-    let put : tie.After-put-record = search in
-    let roomy : tie.Else1 = search in
-    let x = roomy .before .before .before .args in
-    (all-printed _ (x .text .now) (roomy .if1 .left) (omega arith) (put .put-record .ensures .0), (omega arith, sym (length-take-le _ _ (omega arith))))
+whole : tie.Need-returns-3
+unfolding textOf examinedText
+whole c =
+    let put : tie.After-put-passed = search in
+    let told : tie.After-h = search in
+    let examine : tie.After-examine = search in (
+      rw (← examine .examine .ensures, told .h .given .1) (all-printed (omega arith) (rw entries at (put .put-passed .ensures))),
+      (omega arith, sym (length-take-le _ _ (omega arith))),
+    )
 
 pub answer-spec : {M : Type 1} → statement M
-answer-spec = tie.close (tie.spec returns (λ c κs. omega arith) (λ c. search needs) returns-2 (λ c κs. omega arith) (λ c. search needs) returns-3)
+answer-spec = tie.close (tie.spec short (λ c κs. search needs) (λ c. search needs) (λ c κs. omega arith) (λ c. search needs)
+    (λ c. omega (arith, fit (search))) (λ c. omega (arith, fit (search))) (λ c. search needs) requires (λ c. search needs) unfit (λ c. search needs) whole)

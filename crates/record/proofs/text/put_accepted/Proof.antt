@@ -1,7 +1,7 @@
 -- `record::text::put_accepted` meets its contract: each piece stands behind the last. Assumes nothing.
 use native.Mathlib.Omega.{arith}
 use Rattle.record.specs.Answer.{decomposedText}
-use Rattle.record.proofs.Paging.{both-put}
+use Rattle.record.proofs.Paging.{put-within, both-put}
 use Rattle.record.proofs.text.put_accepted.Statement.{statement}
 use Rattle.record.proofs.text.put_accepted.Tie as tie
 
@@ -12,9 +12,9 @@ returns c =
     let q-put : tie.After-put-matrix2 = search in
     let t-put : tie.After-put-matrix = search in
     let passes-put : tie.After-put-passes = search in
-    let two = both-put _ _ _ (passes-put .put-passes .ensures .0) (t-put .put-matrix .ensures .0) in
-    let three = both-put _ _ _ two (q-put .put-matrix2 .ensures .0) in
-    (both-put _ _ _ three (read .put-read .ensures .0), omega arith)
+    let two = both-put (passes-put .put-passes .ensures) (t-put .put-matrix .ensures) in
+    let three = both-put two (q-put .put-matrix2 .ensures) in
+    put-within (omega arith) (both-put three (read .put-read .ensures))
 
 pub put-accepted-spec : {M : Type 1} → statement M
 put-accepted-spec = tie.close (tie.spec (λ c κs. omega arith) (λ c κs. omega arith) (λ c κs. omega arith) (λ c κs. omega arith) (λ c. omega arith) returns)

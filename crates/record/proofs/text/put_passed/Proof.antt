@@ -1,23 +1,26 @@
 -- `record::text::put_passed` meets its contract. Assumes nothing.
 use Prim.Native.Nat.{_*_, _≤_}
-use mathlib.Core.Path.{sym, ap, _∙_}
+use mathlib.Core.Path.{sym}
 use native.Mathlib.Omega.{arith}
-use Rattle.record.specs.Page.{page, more}
-use Rattle.record.specs.Answer.{decomposedText, matrixText}
+use Rattle.record.specs.Answer.{matrixText}
 use Rattle.words.proofs.Between.{fresh-zeros, fresh-length}
-use Rattle.record.proofs.Rooms.{square-32}
+use Rattle.header.proofs.Rooms.{square-32}
 use Rattle.record.proofs.text.put_passed.Statement.{statement}
 use Rattle.record.proofs.text.put_passed.Tie as tie
 
 -- T and Q are within their rooms
 small : (c : tie.Start) → c .args .h .order * c .args .h .order ≤ 1024
-small c = square-32 (c .args .h .order) (c .pre .1)
+small c = square-32 (c .args .h .order) (c .pre .order)
 
 decompose-requires : tie.Need-decompose-requires
 decompose-requires c κs =
     let start : tie.Start = search in
-    let s = small start in
-    (start .pre .2, sym (fresh-length _ 1024 s), fresh-zeros _ 1024 s, fresh-zeros _ 64 (omega arith))
+    let s = small start in record {
+      whole = start .pre .whole;
+      square-t = sym (fresh-length _ 1024 s);
+      zero-q = fresh-zeros _ 1024 s;
+      zero-work = fresh-zeros _ 64 (omega arith);
+    }
 
 put-requires : tie.Need-put-decomposed-requires
 put-requires c κs = omega (arith, fresh-length _ 1024 (small (search)))
@@ -27,11 +30,7 @@ unfolding matrixText
 returns c =
     let put : tie.After-put-decomposed = search in
     let run : tie.After-decompose = search in
-    let start : tie.Start = search in
-    let x = start .args in (
-      put .put-decomposed .ensures .0 ∙ ap (λ o. more (decomposedText (x .h .order) (o .answer) (o .pair)) (page 0 (x .text .now))) (run .decompose .ensures),
-      omega arith,
-    )
+    rw (← run .decompose .ensures) (put .put-decomposed .ensures)
 
 pub put-passed-spec : {M : Type 1} → statement M
 put-passed-spec = tie.close (tie.spec (λ c. omega arith)

@@ -1,8 +1,6 @@
 -- `record::text::put_read` meets its contract. Assumes nothing.
-use mathlib.Core.Path.{ap, _∙_}
 use native.Mathlib.Omega.{arith}
-use Rattle.record.specs.Page.{page, more}
-use Rattle.record.specs.Answer.{eigenvaluesText, readText}
+use Rattle.record.specs.Answer.{readText}
 use Rattle.words.proofs.Between.{fresh-zeros, fresh-length}
 use Rattle.record.proofs.text.put_read.Statement.{statement}
 use Rattle.record.proofs.text.put_read.Tie as tie
@@ -11,7 +9,7 @@ use Rattle.record.proofs.text.put_read.Tie as tie
 requires : tie.Need-put-answer-requires
 requires c κs =
     let start : tie.Start = search in
-    omega (arith, fresh-length (start .args .n) 32 (start .pre .1))
+    omega (arith, fresh-length (start .args .n) 32 (omega arith))
 
 returns : tie.Need-returns
 unfolding readText
@@ -19,9 +17,8 @@ returns c =
     let after-complex-eigenvalues : tie.After-complex-eigenvalues = search in
     let start : tie.Start = search in
     let put : tie.After-put-answer = search in
-    let x = start .args in
-    let answered = rw (fresh-zeros (x .n) 32 (start .pre .1)) at (after-complex-eigenvalues .complex-eigenvalues .ensures) in
-    (put .put-answer .ensures .0 ∙ ap (λ r. more (eigenvaluesText (x .n) (r .answer) (r .re) (r .im)) (page (x .at) (x .text .now))) answered, omega arith)
+    let answered = rw (fresh-zeros (start .args .n) 32 (omega arith)) at (after-complex-eigenvalues .complex-eigenvalues .ensures) in
+    rw (← answered) (put .put-answer .ensures)
 
 pub put-read-spec : {M : Type 1} → statement M
 put-read-spec = tie.close (tie.spec (λ c. omega arith) (λ c. fresh-length _ 32 (omega arith)) (λ c. omega arith) (λ c. fresh-length _ 32 (omega arith))

@@ -1,9 +1,0 @@
--- `record::header::byte` meets its contract. Assumes nothing.
-use native.Mathlib.Omega.{arith}
-use borrow.Author.Needs.{needs}
-use Rattle.record.proofs.header.byte.Statement.{statement}
-use Rattle.record.proofs.header.byte.Tie as tie
-
-pub byte-spec : {M : Type 1} → statement M
-byte-spec = tie.close (tie.spec (λ c. search needs) (λ c. omega (arith, c .shared-slice-known .given (c .before .args .at)))
-    (λ c. omega (arith, c .shared-slice-known .given (c .before .args .at))))
