@@ -8,7 +8,7 @@ ghost use Rattle.hessenberg.specs.Unpacked.{unpackedQ};
 ghost use Rattle.pass.specs.Pair.{pair, onQ};
 ghost use Rattle.schur.specs.Run.{running, turnTwo, turnMore, turnOf, runFrom, scaledDown, reducedPair};
 ghost use Rattle.schur.specs.Run.{opened, left, answered, runFits, ranOf, runOf, workAfter};
-ghost use Rattle.schur.specs.Inner.{Square, Turnable, Turned, Counted, Begun};
+ghost use Rattle.schur.specs.Inner.{Square, Turnable, Turned, PassCounted, Begun};
 use pass::Setting;
 use window::Window;
 use window::delimit_subproblem;
@@ -31,7 +31,7 @@ impl State {
     // A pass has been made: T is delimited from `end`, and the pass counts.
     fn after(self, t: &mut [f64], asked: Setting, end: usize) -> State
         requires { ⌜ self .passes < 18446744073709551615 ⌝ }
-        ensures { λ r. ⌜ Counted asked end self (now (t .entry)) r (now (t .exit)) ⌝ }
+        ensures { λ r. ⌜ PassCounted asked end self (now (t .entry)) r (now (t .exit)) ⌝ }
     {
         let window = delimit_subproblem(t, asked.order, asked.tolerance, end);
         State {
