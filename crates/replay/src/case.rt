@@ -1,4 +1,4 @@
-// A case: a call, and what it must come to. It is the bytes of its record, b, whose words are read where they are needed.
+// A case: a call, and what it must come to. It is the bytes of its record, b: words are read where they are needed.
 ghost use mathlib.Core.Path.{_≡_};
 ghost use lib.ListN.{length};
 use crate::answer::as_stored;
