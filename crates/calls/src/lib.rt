@@ -1,6 +1,6 @@
-// A call of the library by its entry, for the program that makes calls out of a list. An entry is given a matrix, a T
-// or a number, and writes to up to three lent slices: T, Q and workspace; eigenvalues; real parts and imaginary parts;
-// eigenvalues and workspace; a root. The others are left alone.
+// A call of the library by its entry, for the program that makes calls out of a list. An entry is given a matrix,
+// a T or a number, and writes to up to three lent slices: T, Q and workspace; eigenvalues; real parts and
+// imaginary parts; eigenvalues and workspace; a root. The others are left alone.
 ghost use mathlib.Core.Path.{_≡_};
 ghost use Rattle.calls.specs.Call.{decomposedAnswer, checkedAnswer, came, withOrWithoutQ, rooted, callOf};
 use decomposition::Decomposed;

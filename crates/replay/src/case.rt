@@ -1,17 +1,15 @@
-// A case: a call, and what it must come to. It is the bytes of its record, b, whose words are read where they are
-// needed.
+// A case: a call, and what it must come to. It is the bytes of its record, b: words are read where they are needed.
 ghost use mathlib.Core.Path.{_≡_};
 ghost use lib.ListN.{length};
 use crate::answer::as_stored;
 use crate::expected;
-use crate::met;
 use crate::slots::start;
 use crate::unpack::word;
 use calls::Call;
 use calls::Entry;
 
 // The places of a case's words; x, y and z, the answer, and what is left in x, y and z have three each.
-const ENTRY: usize = 0;
+pub(crate) const ENTRY: usize = 0;
 
 const SLOT: usize = 1;
 
@@ -32,7 +30,7 @@ pub(crate) const LEFT: usize = 12;
 // What lent memory holds before a call. No answer has it: the oracle sees to that.
 pub(crate) const LENT: u64 = 0x0123_4567_89ab_cdef;
 
-// 1 to 6.
+// The entry of a number from 1 to 6.
 fn entry_of(number: u64) -> Entry {
     match number {
         1 => Entry::WithQ,
@@ -54,36 +52,29 @@ fn call_of(b: &[u8]) -> Call {
     }
 }
 
-// Makes the call: it is given m, and lent x, y and z.
-fn make(
-    b: &[u8],
-    m: &[f64],
-    x: &mut [f64],
-    y: &mut [f64],
-    z: &mut [f64],
-    slots: &[f64],
-    counts: &mut [u64],
-) -> bool {
-    let came = as_stored(calls::run(call_of(b), m, x, y, z));
-    met::count(counts, word(b, ENTRY), came.first);
-    expected::same(b, came, x, y, z, slots)
+// How a case went, with the number of the refusal that came, or 0. One that is no case, or has no room, is not made.
+pub(crate) enum Went {
+    AsExpected(u64),
+    Otherwise(u64),
+    NotMade,
 }
 
-// The same, where x, y and z are rooms to lend from: false where they are too small.
-fn lend(
-    b: &[u8],
-    m: &[f64],
-    x: &mut [f64],
-    y: &mut [f64],
-    z: &mut [f64],
-    slots: &[f64],
-    counts: &mut [u64],
-) -> bool {
+// Makes the call: it is given m, and lent x, y and z.
+fn make(b: &[u8], m: &[f64], x: &mut [f64], y: &mut [f64], z: &mut [f64], slots: &[f64]) -> Went {
+    let came = as_stored(calls::run(call_of(b), m, x, y, z));
+    if expected::same(b, came, x, y, z, slots) {
+        return Went::AsExpected(came.first);
+    }
+    Went::Otherwise(came.first)
+}
+
+// The same, where x, y and z are rooms to lend from.
+fn lend(b: &[u8], m: &[f64], x: &mut [f64], y: &mut [f64], z: &mut [f64], slots: &[f64]) -> Went {
     let first = word(b, LENGTHS) as usize;
     let second = word(b, LENGTHS + 1) as usize;
     let third = word(b, LENGTHS + 2) as usize;
     if x.len() < first || y.len() < second || z.len() < third {
-        return false;
+        return Went::NotMade;
     }
     make(
         b,
@@ -92,7 +83,6 @@ fn lend(
         &mut y[0..second],
         &mut z[0..third],
         slots,
-        counts,
     )
 }
 
@@ -104,31 +94,30 @@ fn room() -> [f64; 4225]
 }
 
 // The same, on rooms full of what lent memory holds.
-fn given(b: &[u8], m: &[f64], slots: &[f64], counts: &mut [u64]) -> bool {
+fn given(b: &[u8], m: &[f64], slots: &[f64]) -> Went {
     let mut x = room();
     let mut y = room();
     let mut z = room();
-    lend(b, m, &mut x, &mut y, &mut z, slots, counts)
+    lend(b, m, &mut x, &mut y, &mut z, slots)
 }
 
-// Whether a case goes as expected.
-pub(crate) fn run(b: &[u8], slots: &[f64], counts: &mut [u64]) -> bool {
+pub(crate) fn run(b: &[u8], slots: &[f64]) -> Went {
     let entry = word(b, ENTRY);
     let k = word(b, SLOT) as usize;
     let count = word(b, COUNT) as usize;
     if entry == 0 || 6 < entry {
-        return false;
+        return Went::NotMade;
     }
     if 5 <= k {
-        return false;
+        return Went::NotMade;
     }
     if 4225 < count {
-        return false;
+        return Went::NotMade;
     }
     let from = start(k);
     let to = from + count;
     if slots.len() < to {
-        return false;
+        return Went::NotMade;
     }
-    given(b, &slots[from..to], slots, counts)
+    given(b, &slots[from..to], slots)
 }

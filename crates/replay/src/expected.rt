@@ -62,8 +62,9 @@ fn place(v: &[f64], left: usize, slots: &[f64]) -> usize {
     }
 }
 
-fn slice(number: u64, v: &[f64], left: usize, slots: &[f64]) -> bool {
-    let at = place(v, left, slots);
+// The word at `left` says what is expected.
+fn slice(number: u64, v: &[f64], b: &[u8], left: usize, slots: &[f64]) -> bool {
+    let at = place(v, unpack::word(b, left) as usize, slots);
     if at == v.len() {
         return true;
     }
@@ -78,8 +79,8 @@ fn slice(number: u64, v: &[f64], left: usize, slots: &[f64]) -> bool {
 // Whether all is as expected.
 pub(crate) fn same(b: &[u8], came: Stored, x: &[f64], y: &[f64], z: &[f64], slots: &[f64]) -> bool {
     let answered = answer(b, came);
-    let first = slice(1, x, unpack::word(b, LEFT) as usize, slots);
-    let second = slice(2, y, unpack::word(b, LEFT + 1) as usize, slots);
-    let third = slice(3, z, unpack::word(b, LEFT + 2) as usize, slots);
+    let first = slice(1, x, b, LEFT, slots);
+    let second = slice(2, y, b, LEFT + 1, slots);
+    let third = slice(3, z, b, LEFT + 2, slots);
     answered && first && second && third
 }

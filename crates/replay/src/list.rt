@@ -1,10 +1,13 @@
 // The records of the list, read one by one.
 use crate::case;
+use crate::case::ENTRY;
+use crate::case::Went;
 use crate::met;
 use crate::met::more;
 use crate::say;
 use crate::say::word;
 use crate::slots;
+use crate::unpack;
 use crate::unpack::wide;
 use libc::STDIN_FILENO;
 
@@ -86,24 +89,43 @@ fn not_understood(s: Sums) -> Sums {
     went(s, false)
 }
 
+fn try_case(b: &[u8], slots: &[f64], counts: &mut [u64], s: Sums) -> Sums {
+    let entry = unpack::word(b, ENTRY);
+    let w = case::run(b, slots);
+    match w {
+        Went::AsExpected(number) => {
+            met::count(counts, entry, number);
+            went(s, true)
+        }
+        Went::Otherwise(number) => {
+            met::count(counts, entry, number);
+            went(s, false)
+        }
+        Went::NotMade => not_understood(s),
+    }
+}
+
+fn begin_group(b: &[u8], size: usize, s: Sums) -> Sums {
+    if b.len() < size {
+        return not_understood(s);
+    }
+    group(&b[0..size], s)
+}
+
+fn put_numbers(b: &[u8], k: usize, slots: &mut [f64], s: Sums) -> Sums {
+    if slots::put(b, k, slots) {
+        return s;
+    }
+    not_understood(s)
+}
+
 // What a record's words mean, by its kind.
 fn mean(h: Head, b: &[u8], slots: &mut [f64], counts: &mut [u64], s: Sums) -> Sums {
     let kind = h.kind;
-    let small = h.small;
     match kind {
-        b'g' => {
-            if b.len() < small {
-                return not_understood(s);
-            }
-            group(&b[0..small], s)
-        }
-        b'n' => {
-            if slots::put(b, small, slots) {
-                return s;
-            }
-            not_understood(s)
-        }
-        b'c' => went(s, case::run(b, slots, counts)),
+        b'g' => begin_group(b, h.small, s),
+        b'n' => put_numbers(b, h.small, slots, s),
+        b'c' => try_case(b, slots, counts, s),
         _ => not_understood(s),
     }
 }
