@@ -16,7 +16,7 @@ use Rattle.header.specs.declared.Examined.the-variants.{Fit}
 use Rattle.header.specs.Record.{le16, le32, headerOf, headerChecks, recordChecks, examined}
 use Rattle.header.proofs.Fields.{le64-halves}
 use Rattle.header.proofs.Rooms.{square-32}
-use Rattle.header.proofs.Fitting.{fitting}
+use Rattle.header.proofs.FitHeader.{fit-header}
 
 -- ---- the header of the first n bytes
 
@@ -78,5 +78,5 @@ longer-examined b h = rw (checks-alike b h, header-take 8213 b (omega arith))
 
 pub longer-unfit : {h : Header} (b : List ℕ) → 8213 < length b → examined b ≡ Fit h → ⊥
 longer-unfit {h} b l e =
-    let fit = fitting b e in
+    let fit = fit-header b e in
     omega (arith, square-32 (h .order) (fit .order))

@@ -1,4 +1,4 @@
--- For the contracts of private functions: what was read, and that it is as large as its bytes allow.
+-- For the contracts of private functions: what was read, and that it is no larger than its bytes allow.
 use mathlib.Core.Path.{_≡_}
 use Prim.Native.Nat.{ℕ, _<_, _^_}
 use mathlib.Core.List.{List}

@@ -3,7 +3,6 @@ use Prim.Native.Nat.{ℕ, _<_, _≤_}
 use mathlib.Core.Path.{_≡_}
 use mathlib.Core.List.{List}
 use native.Mathlib.Omega.{arith}
-use borrow.Author.Needs.{needs}
 use borrow.Author.Tests.{lt-ltb, le-ltb}
 use lib.ListN.{length}
 use Rattle.refusal.specs.declared.refusal.Refusal.the-variants.{InputCutShort}
@@ -39,4 +38,4 @@ passed c = rw (c .enum-told .given .1) at (checked (search))
 pub examine-spec : {M : Type 1} → statement M
 examine-spec = tie.close (tie.spec
     (λ c. let start : tie.Start = search in short (start .args .input .now) (c .if1 .taken))
-    (λ c κs. omega arith) (λ c κs. omega arith) (λ c. search needs) (λ c. search needs) refused passed)
+    (λ c κs. omega arith) (λ c κs. omega arith) (λ c. omega arith) (λ c. omega arith) refused passed)

@@ -2,7 +2,6 @@
 use Prim.Native.Nat.{_-_, _≤_}
 use mathlib.Core.Path.{_≡_, sym, _∙_}
 use native.Mathlib.Omega.{arith}
-use borrow.Author.Needs.{needs}
 use lib.ListN.{length}
 use Rattle.reading.proofs.Arriving.{came}
 use Rattle.reading.proofs.fill.Statement.{statement}
@@ -16,7 +15,7 @@ abbrev μ-loop : tie.MeasureT-loop
 
 pub fill-spec : {M : Type 1} → statement M
 fill-spec = tie.close (tie.spec Inv-loop μ-loop (λ c. omega arith) (λ c. omega arith) (λ c. omega arith) (λ c. omega arith) (λ c κs. omega arith)
-    (λ c. omega arith) (λ c κs. omega arith) (λ c. search needs)
+    (λ c. omega arith) (λ c κs. omega arith) (λ c. omega arith)
     (λ c. omega (arith, came _ _ _ _ (omega arith) (sym (c .before .more .given .1) ∙ c .before .before .before .after-read .ensures)))
-    (λ c. omega (arith, came _ _ _ _ (omega arith) (sym (c .before .more .given .1) ∙ c .before .before .before .after-read .ensures))) (λ c. search needs)
-    (λ c. omega arith) (λ c. search needs) (λ c. search needs) (λ c. omega arith) (λ c. search needs) (λ c. omega arith) (λ c. search needs))
+    (λ c. omega (arith, came _ _ _ _ (omega arith) (sym (c .before .more .given .1) ∙ c .before .before .before .after-read .ensures))) (λ c. omega arith)
+    (λ c. omega arith) (λ c. omega arith) (λ c. omega arith) (λ c. omega arith) (λ c. omega arith) (λ c. omega arith) (λ c. omega arith))

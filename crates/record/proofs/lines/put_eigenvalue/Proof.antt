@@ -1,6 +1,5 @@
 -- `record::lines::put_eigenvalue` meets its contract. Assumes nothing.
 use native.Mathlib.Omega.{arith}
-use borrow.Author.Needs.{needs}
 use Prim.Native.Nat.{_≤_}
 use lib.ListN.{length}
 use Rattle.record.specs.Text.{ascii, decimal, eigenvalueLine}
@@ -29,7 +28,7 @@ returns c =
     (omega (arith, digits start))
 
 pub put-eigenvalue-spec : {M : Type 1} → statement M
-put-eigenvalue-spec = tie.close (tie.spec (λ c. search needs)
+put-eigenvalue-spec = tie.close (tie.spec (λ c. omega arith)
     (λ c κs. omega arith)
     (λ c κs. omega (arith, digits (search)))
     (λ c κs. omega arith)
@@ -37,4 +36,4 @@ put-eigenvalue-spec = tie.close (tie.spec (λ c. search needs)
     (λ c κs. omega arith)
     (λ c κs. omega (arith, digits (search)))
     (λ c κs. omega (arith, digits (search)))
-    (λ c. search needs) returns)
+    (λ c. omega arith) returns)

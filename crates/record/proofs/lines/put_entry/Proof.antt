@@ -1,6 +1,5 @@
 -- `record::lines::put_entry` meets its contract. Assumes nothing.
 use native.Mathlib.Omega.{arith}
-use borrow.Author.Needs.{needs}
 use Prim.Native.Nat.{_≤_}
 use lib.ListN.{length}
 use Rattle.record.specs.Text.{decimal, entryLine}
@@ -33,4 +32,4 @@ put-entry-spec = tie.close (tie.spec (λ c κs. omega arith)
     (λ c κs. omega arith)
     (λ c κs. omega (arith, digits (search)))
     (λ c κs. omega (arith, digits (search)))
-    (λ c. search needs) returns)
+    (λ c. omega arith) returns)

@@ -1,6 +1,5 @@
 -- `record::lines::put_passes` meets its contract. Assumes nothing.
 use native.Mathlib.Omega.{arith}
-use borrow.Author.Needs.{needs}
 use Prim.Native.Nat.{_≤_}
 use lib.ListN.{length}
 use Rattle.record.specs.Text.{ascii, decimal, passesLine}
@@ -25,11 +24,11 @@ returns c =
     (c .before .before .put-byte .ensures) (omega (arith, digits start))
 
 pub put-passes-spec : {M : Type 1} → statement M
-put-passes-spec = tie.close (tie.spec (λ c. search needs)
+put-passes-spec = tie.close (tie.spec (λ c. omega arith)
     (λ c κs. omega arith)
     (λ c κs. omega (arith, digits (search)))
-    (λ c. search needs)
+    (λ c. omega arith)
     (λ c κs. omega (arith, digits (search)))
     (λ c κs. omega (arith, digits (search)))
     (λ c κs. omega (arith, digits (search)))
-    (λ c. search needs) returns)
+    (λ c. omega arith) returns)

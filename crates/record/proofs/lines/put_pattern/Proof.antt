@@ -1,6 +1,5 @@
 -- `record::lines::put_pattern` meets its contract. Assumes nothing.
 use native.Mathlib.Omega.{arith}
-use borrow.Author.Needs.{needs}
 use Rattle.record.proofs.Paging.{both-put}
 use Rattle.record.proofs.lines.put_pattern.Statement.{statement}
 use Rattle.record.proofs.lines.put_pattern.Tie as tie
@@ -11,4 +10,4 @@ returns c =
     both-put (after-put-byte .put-byte .ensures) (c .before .before .put-hexadecimal .ensures)
 
 pub put-pattern-spec : {M : Type 1} → statement M
-put-pattern-spec = tie.close (tie.spec (λ c κs. omega arith) (λ c κs. omega arith) (λ c. search needs) returns)
+put-pattern-spec = tie.close (tie.spec (λ c κs. omega arith) (λ c κs. omega arith) (λ c. omega arith) returns)

@@ -1,6 +1,5 @@
 -- `record::lines::put_told` meets its contract. Assumes nothing.
 use native.Mathlib.Omega.{arith}
-use borrow.Author.Needs.{needs}
 use Prim.Native.Nat.{_≤_}
 use lib.ListN.{length}
 use Rattle.record.specs.Text.{ascii, decimal, refusedLine}
@@ -26,10 +25,10 @@ returns c =
     (after-put-number3 .put-number3 .ensures) (c .before .before .put-byte .ensures) (omega (arith, digits start))
 
 pub put-told-spec : {M : Type 1} → statement M
-put-told-spec = tie.close (tie.spec (λ c. search needs)
+put-told-spec = tie.close (tie.spec (λ c. omega arith)
     (λ c κs. omega arith)
     (λ c κs. omega (arith, digits (search)))
     (λ c κs. omega (arith, digits (search)))
     (λ c κs. omega (arith, digits (search)))
     (λ c κs. omega (arith, digits (search)))
-    (λ c. search needs) returns)
+    (λ c. omega arith) returns)

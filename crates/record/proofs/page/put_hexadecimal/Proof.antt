@@ -1,7 +1,6 @@
 -- `record::page::put_hexadecimal` meets its contract. Assumes nothing.
 use mathlib.Core.Path.{_≡_, _∙_}
 use native.Mathlib.Omega.{arith}
-use borrow.Author.Needs.{needs}
 use lib.ListN.{take}
 use Rattle.record.specs.Text.{hexadecimal}
 use Rattle.record.proofs.Digits.{hexadecimal-digits, hexadecimal-length}
@@ -20,4 +19,4 @@ returns : tie.Need-returns
 returns c = rw (made (search), hexadecimal-length) at (c .before .before .put .ensures)
 
 pub put-hexadecimal-spec : {M : Type 1} → statement M
-put-hexadecimal-spec = tie.close (tie.spec (λ c κs. search needs) (λ c. search needs) (λ c. search needs) put-requires (λ c. search needs) returns)
+put-hexadecimal-spec = tie.close (tie.spec (λ c κs. omega arith) (λ c. omega arith) (λ c. omega arith) put-requires (λ c. omega arith) returns)

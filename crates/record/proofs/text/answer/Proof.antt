@@ -3,18 +3,17 @@ use Prim.Native.Nat.{ℕ, _-_}
 use mathlib.Core.Path.{_≡_, refl, sym, _∙_}
 use mathlib.Core.List.{List}
 use native.Mathlib.Omega.{arith}
-use borrow.Author.Needs.{needs}
 use lib.ListN.{length, take, drop, length-drop}
 use lib.Seq.{length-take-le, take-all}
-use Rattle.header.proofs.Fitting.{Fitting, fitting}
+use Rattle.header.proofs.FitHeader.{FitHeader, fit-header}
 use Rattle.record.specs.Answer.{examinedText, textOf}
 use Rattle.record.proofs.Paging.{put-within, all-printed, none-printed}
 use Rattle.record.proofs.text.answer.Statement.{statement}
 use Rattle.record.proofs.text.answer.Tie as tie
 
 -- a record without fault is as long as its order says
-fit : (c : tie.After-h) → Fitting (c .h .given .0 .0) (length (c .before .before .before .before .before .before .args .input .now))
-fit c = let examine : tie.After-examine = search in fitting _ (sym (examine .examine .ensures) ∙ c .h .given .1)
+fit : (c : tie.After-h) → FitHeader (c .h .given .0 .0) (length (c .before .before .before .before .before .before .args .input .now))
+fit c = let examine : tie.After-examine = search in fit-header _ (sym (examine .examine .ensures) ∙ c .h .given .1)
 
 -- all that lies behind a header
 entries : (b : List ℕ) → take (length b - 20) (drop 20 b) ≡ drop 20 b
@@ -51,5 +50,5 @@ whole c =
     )
 
 pub answer-spec : {M : Type 1} → statement M
-answer-spec = tie.close (tie.spec short (λ c κs. search needs) (λ c. search needs) (λ c κs. omega arith) (λ c. search needs)
-    (λ c. omega (arith, fit (search))) (λ c. omega (arith, fit (search))) (λ c. search needs) requires (λ c. search needs) unfit (λ c. search needs) whole)
+answer-spec = tie.close (tie.spec short (λ c κs. omega arith) (λ c. omega arith) (λ c κs. omega arith) (λ c. omega arith)
+    (λ c. omega (arith, fit (search))) (λ c. omega (arith, fit (search))) (λ c. omega arith) requires (λ c. omega arith) unfit (λ c. omega arith) whole)

@@ -1,6 +1,5 @@
 -- `record::text::put_answer` meets its contract. Assumes nothing.
 use native.Mathlib.Omega.{arith}
-use borrow.Author.Needs.{needs}
 use Rattle.record.specs.Answer.{eigenvaluesText}
 use Rattle.record.proofs.Paging.{put-within}
 use Rattle.record.proofs.text.put_answer.Statement.{statement}
@@ -19,5 +18,5 @@ returns-2 c =
     rw (after-checked .checked .given .1) (put-within (omega arith) (c .before .before .put-not-read .ensures))
 
 pub put-answer-spec : {M : Type 1} → statement M
-put-answer-spec = tie.close (tie.spec (λ c. search needs) (λ c κs. omega arith) (λ c. search needs) (λ c κs. omega arith) (λ c. search needs) returns
-    (λ c. search needs) returns-2)
+put-answer-spec = tie.close (tie.spec (λ c. omega arith) (λ c κs. omega arith) (λ c. omega arith) (λ c κs. omega arith) (λ c. omega arith) returns
+    (λ c. omega arith) returns-2)

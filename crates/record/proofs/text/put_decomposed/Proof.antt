@@ -1,6 +1,5 @@
 -- `record::text::put_decomposed` meets its contract. Assumes nothing.
 use native.Mathlib.Omega.{arith}
-use borrow.Author.Needs.{needs}
 use Rattle.record.specs.Answer.{decomposedText}
 use Rattle.record.proofs.Paging.{put-within}
 use Rattle.record.proofs.text.put_decomposed.Statement.{statement}
@@ -19,5 +18,5 @@ returns-2 c =
     rw (after-answer2 .answer2 .given .1) (put-within (omega arith) (c .before .before .put-refused .ensures))
 
 pub put-decomposed-spec : {M : Type 1} → statement M
-put-decomposed-spec = tie.close (tie.spec (λ c. search needs) (λ c κs. omega arith) (λ c. search needs) (λ c κs. omega arith) (λ c. omega arith) returns
+put-decomposed-spec = tie.close (tie.spec (λ c. omega arith) (λ c κs. omega arith) (λ c. omega arith) (λ c κs. omega arith) (λ c. omega arith) returns
     (λ c. omega arith) returns-2)

@@ -12,11 +12,11 @@ use Rattle.header.specs.declared.Header.{Header}
 use Rattle.header.specs.declared.Examined.the-variants.{Fit}
 use Rattle.header.specs.Record.{headerOf, headerChecks, recordChecks, byChecks, examined}
 
-pub record Fitting (h : Header) (bytes : ℕ) : Type 0 where
+pub record FitHeader (h : Header) (bytes : ℕ) : Type 0 where
   pub order : h .order ≤ 32
   pub whole : bytes ≡ 20 + 8 * (h .order * h .order)
 
-passed-fits : (h : Header) (bytes : ℕ) → headerChecks h bytes ≡ Passed → Fitting h bytes
+passed-fits : (h : Header) (bytes : ℕ) → headerChecks h bytes ≡ Passed → FitHeader h bytes
 unfolding headerChecks
 passed-fits h bytes e =
     let a = next-passed _ _ e in
@@ -29,11 +29,11 @@ passed-fits h bytes e =
     let most = ltb-false (4 + h .length) bytes (refuse-passed _ _ (f .1)) in
     record { order = ltb-false 32 (h .order) (refuse-passed _ _ (c .0)); whole = omega arith }
 
-pub fitting : {h : Header} (b : List ℕ) → examined b ≡ Fit h → Fitting h (length b)
+pub fit-header : {h : Header} (b : List ℕ) → examined b ≡ Fit h → FitHeader h (length b)
 unfolding examined byChecks recordChecks
-fitting {h} b e = go (recordChecks b) refl
+fit-header {h} b e = go (recordChecks b) refl
   where
-    go : (c : Checked) → recordChecks b ≡ c → Fitting h (length b)
+    go : (c : Checked) → recordChecks b ≡ c → FitHeader h (length b)
     go Passed f =
         let is : h ≡ headerOf b = cc in
         rw is (passed-fits (headerOf b) (length b) (next-passed _ _ f .1))
