@@ -37,7 +37,8 @@ pub record Turned (asked : Setting) (s : State) (whole : Running) (r : State) (p
   pub count : r .passes ≤ s .passes + 1
 
 -- a pass has been made from the state s, and T was delimited from e: the state is r then, whatever Q is
-pub record PassCounted (asked : Setting) (e : ℕ) (s : State) (t : List Float) (r : State) (t' : List Float) : Type 0 where
+pub record PassCounted (asked : Setting) (e : ℕ) (s : State) (t : List Float) (r : State)
+    (t' : List Float) : Type 0 where
   pub is : (q : List Float) → running r (pair t' q) ≡ after asked e s (pair t q)
   pub start : r .window .start ≤ r .window .end
   pub end : r .window .end ≤ e
