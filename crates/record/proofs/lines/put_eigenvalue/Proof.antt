@@ -1,10 +1,11 @@
 -- `record::lines::put_eigenvalue` meets its contract. Assumes nothing.
+use mathlib.Core.Path.{ap}
 use native.Mathlib.Omega.{arith}
 use Prim.Native.Nat.{_≤_}
 use lib.ListN.{length}
-use Rattle.record.specs.Text.{ascii, decimal, eigenvalueLine}
+use Rattle.record.specs.Text.{ascii, decimal, pattern, eigenvalueLine}
 use Rattle.record.proofs.Digits.{decimal-32}
-use Rattle.record.proofs.Paging.{line-put}
+use Rattle.record.proofs.Paging.{put-as, line-put}
 use Rattle.record.proofs.lines.put_eigenvalue.Statement.{statement}
 use Rattle.record.proofs.lines.put_eigenvalue.Tie as tie
 
@@ -23,8 +24,8 @@ returns c =
     let after-put : tie.After-put = search in
     let start : tie.Start = search in
     line-put (after-put .put .ensures) (after-put-number .put-number .ensures)
-    (rw (after-bits-of .bits-of .ensures) at (after-put-pattern .put-pattern .ensures))
-    (rw (after-bits-of2 .bits-of2 .ensures) at (after-put-pattern2 .put-pattern2 .ensures)) (c .before .before .put-byte .ensures)
+    (put-as (ap pattern (after-bits-of .bits-of .ensures)) (after-put-pattern .put-pattern .ensures))
+    (put-as (ap pattern (after-bits-of2 .bits-of2 .ensures)) (after-put-pattern2 .put-pattern2 .ensures)) (c .before .before .put-byte .ensures)
     (omega (arith, digits start))
 
 pub put-eigenvalue-spec : {M : Type 1} → statement M

@@ -1,10 +1,11 @@
 -- `record::lines::put_entry` meets its contract. Assumes nothing.
+use mathlib.Core.Path.{ap}
 use native.Mathlib.Omega.{arith}
 use Prim.Native.Nat.{_≤_}
 use lib.ListN.{length}
-use Rattle.record.specs.Text.{decimal, entryLine}
+use Rattle.record.specs.Text.{decimal, pattern, entryLine}
 use Rattle.record.proofs.Digits.{decimal-32}
-use Rattle.record.proofs.Paging.{line-put}
+use Rattle.record.proofs.Paging.{put-as, line-put}
 use Rattle.record.proofs.lines.put_entry.Statement.{statement}
 use Rattle.record.proofs.lines.put_entry.Tie as tie
 
@@ -22,7 +23,7 @@ returns c =
     let after-put-byte : tie.After-put-byte = search in
     let start : tie.Start = search in
     line-put (after-put-byte .put-byte .ensures) (after-put-number .put-number .ensures) (after-put-number2 .put-number2 .ensures)
-    (rw (after-bits-of .bits-of .ensures) at (after-put-pattern .put-pattern .ensures)) (c .before .before .put-byte2 .ensures)
+    (put-as (ap pattern (after-bits-of .bits-of .ensures)) (after-put-pattern .put-pattern .ensures)) (c .before .before .put-byte2 .ensures)
     (omega (arith, digits start))
 
 pub put-entry-spec : {M : Type 1} → statement M

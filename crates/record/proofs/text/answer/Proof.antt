@@ -1,13 +1,15 @@
 -- `record::text::answer` meets its contract. Assumes nothing.
 use Prim.Native.Nat.{ℕ, _-_}
-use mathlib.Core.Path.{_≡_, refl, sym, _∙_}
+use mathlib.Core.Path.{_≡_, refl, sym, ap, _∙_}
 use mathlib.Core.List.{List}
 use native.Mathlib.Omega.{arith}
 use lib.ListN.{length, take, drop, length-drop}
 use lib.Seq.{length-take-le, take-all}
+use Rattle.header.specs.declared.Examined.{Examined}
+use Rattle.header.specs.Record.{examined}
 use Rattle.header.proofs.FitHeader.{FitHeader, fit-header}
 use Rattle.record.specs.Answer.{examinedText, textOf}
-use Rattle.record.proofs.Paging.{put-within, all-printed, none-printed}
+use Rattle.record.proofs.Paging.{put-as, put-within, all-printed, none-printed}
 use Rattle.record.proofs.text.answer.Statement.{statement}
 use Rattle.record.proofs.text.answer.Tie as tie
 
@@ -18,6 +20,11 @@ fit c = let examine : tie.After-examine = search in fit-header _ (sym (examine .
 -- all that lies behind a header
 entries : (b : List ℕ) → take (length b - 20) (drop 20 b) ≡ drop 20 b
 entries b = take-all (length b - 20) (drop 20 b) (omega (arith, length-drop 20 b))
+
+-- the text by what was found of the header
+text-by : {x : Examined} (b : List ℕ) → x ≡ examined b → examinedText x b ≡ textOf b
+unfolding textOf
+text-by b e = ap (λ x. examinedText x b) e
 
 requires : tie.Need-put-passed-requires
 requires c κs =
@@ -30,22 +37,22 @@ short : tie.Need-returns
 short c = let start : tie.Start = search in (none-printed _ (start .args .text .now) (c .if1 .taken), (omega arith, refl))
 
 unfit : tie.Need-returns-2
-unfolding textOf examinedText
+unfolding examinedText
 unfit c =
     let put : tie.After-put-refused = search in
     let told : tie.After-r = search in
     let examine : tie.After-examine = search in (
-      rw (← examine .examine .ensures, told .r .given .1) (all-printed (omega arith) (put-within (omega arith) (put .put-refused .ensures))),
+      all-printed (omega arith) (put-as (text-by _ (sym (told .r .given .1) ∙ examine .examine .ensures)) (put-within (omega arith) (put .put-refused .ensures))),
       (omega arith, sym (length-take-le _ _ (omega arith))),
     )
 
 whole : tie.Need-returns-3
-unfolding textOf examinedText
+unfolding examinedText
 whole c =
     let put : tie.After-put-passed = search in
     let told : tie.After-h = search in
     let examine : tie.After-examine = search in (
-      rw (← examine .examine .ensures, told .h .given .1) (all-printed (omega arith) (rw entries at (put .put-passed .ensures))),
+      all-printed (omega arith) (put-as (text-by _ (sym (told .h .given .1) ∙ examine .examine .ensures)) (rw entries at (put .put-passed .ensures))),
       (omega arith, sym (length-take-le _ _ (omega arith))),
     )
 
