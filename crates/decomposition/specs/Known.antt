@@ -12,7 +12,7 @@ use Rattle.loops.specs.First.{firstFrom}
 use Rattle.scalar.specs.Class.{isFinite}
 use Rattle.matrix.specs.Known.{shown}
 use Rattle.matrix.specs.Known.{numbers}
-use Rattle.schur.specs.Known.{openedSchur}
+use Rattle.schur.specs.Opened.{openedSchur}
 use Rattle.pass.specs.Setting.{setting}
 use Rattle.pass.specs.Pair.{pair}
 use Rattle.refusal.specs.Refusal.{toldOf, refuse, refuseAt, _next_}

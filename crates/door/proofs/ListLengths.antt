@@ -1,8 +1,10 @@
 -- Where the first checks of an entry that gives lists have passed: the lengths. Where one has not: the same is answered by all its checks. Assumes nothing.
 use Prim.Native.Nat.{ℕ, _*_, _≤_}
-use mathlib.Core.Path.{_≡_}
+use native.Mathlib.Omega.{arith}
+use mathlib.Core.Path.{_≡_, sym, ap, _∙_}
 use mathlib.Core.List.{List}
-use lib.ListN.{length}
+use lib.ListN.{length, replicate, take}
+use Rattle.loops.specs.Constants.{zero}
 use Rattle.loops.specs.Place.{square-64}
 use Rattle.refusal.specs.declared.refusal.Refusal.{Refusal}
 use Rattle.refusal.specs.declared.refusal.Checked.the-variants.{Passed, Refused}
@@ -11,9 +13,12 @@ use Rattle.refusal.specs.Checks.{entryChecks}
 use Rattle.refusal.proofs.ChecksInTurn.{next-passed, next-refused}
 use Rattle.refusal.proofs.PassedChecks.{length-passed, entries-passes, given-passed}
 use Rattle.eigenvalues.specs.Readers.{readable, realChecks, complexChecks}
-use Rattle.words.specs.Floats.{floatsOf}
+use Rattle.words.specs.Floats.{floatsOf, zeros}
+use Rattle.words.proofs.Between.{fresh-zeros, fresh-length}
 use Rattle.door.specs.declared.lists.ListEntry.{ListEntry}
 use Rattle.door.specs.declared.lists.ListEntry.the-variants.{Real, Complex, Plain}
+use Rattle.door.specs.declared.lists.ListCall.{ListCall}
+use Rattle.door.specs.Inner.{ListUpTo, ListRooms, secondSize}
 use Rattle.answer.specs.Answer.{refusalNumber, checkedNumber}
 use Rattle.door.specs.Lists.{secondLength, listLengths, listChecks, complexListed, realBytes, complexBytes, plainFrom, plainBytes, listsBytes}
 
@@ -53,6 +58,17 @@ list-entries e n m rn jn h = entries-passes n (floatsOf m) (given-passed _ n (fl
 pub complex-second : (n jn : ℕ) → secondLength Complex n jn ≡ Passed → jn ≡ 8 * n
 unfolding secondLength
 complex-second n jn h = length-passed _ jn _ h
+
+-- the rooms of a call, cut from arrays of zeros: for the matrix, the list, and what stands beside it
+pub fresh-rooms : {side second : ℕ} {c : ListCall} {m re im : List ℕ} (size long spare : ℕ) → ListUpTo side c m re im
+    → second ≡ secondSize (c .entry) (c .order) → side * side ≤ size → side ≤ long → second ≤ spare
+    → ListRooms c m re im (take (c .order * c .order) (replicate size zero)) (take (c .order) (replicate long zero)) (take second (replicate spare zero))
+fresh-rooms size long spare f e large wide room = record {
+  passed = f .passed;
+  matrix = sym (fresh-length _ size (omega arith));
+  list = sym (fresh-length _ long (omega arith));
+  second = fresh-zeros _ spare room ∙ ap zeros e;
+}
 
 -- ---- refused: all that is lent is as it was
 

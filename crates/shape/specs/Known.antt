@@ -10,7 +10,7 @@ use Rattle.loops.specs.First.{firstFrom}
 use Rattle.matrix.specs.Known.{numbers}
 use Rattle.pass.specs.Setting.{setting}
 use Rattle.pass.specs.Pair.{pair}
-use Rattle.schur.specs.Known.{openedSchur, Case}
+use Rattle.schur.specs.Opened.{openedSchur, Case}
 use Rattle.shape.specs.Vanished.{isTooSmall, tooSmall, passTo, axisColumn, passVanished, turnVanished}
 use Rattle.shape.specs.Vanished.{runVanished, vanished}
 

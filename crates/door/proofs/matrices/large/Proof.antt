@@ -1,22 +1,14 @@
 -- `door::matrices::large` meets its contract. Assumes nothing.
 use native.Mathlib.Omega.{arith}
-use lib.Seq.{length-take-le}
-use Rattle.words.proofs.Between.{fresh-zeros, fresh-length}
+use Rattle.words.proofs.Between.{fresh-length}
+use Rattle.door.proofs.MatrixLengths.{fresh-rooms}
 use Rattle.door.proofs.matrices.large.Statement.{statement}
 use Rattle.door.proofs.matrices.large.Tie as tie
-
-on-floats-requires : tie.Need-on-floats-requires
-on-floats-requires c κs =
-    let first : tie.Start = search in
-    record {
-      passed = first .pre .passed;
-      matrix = length-take-le _ _ (omega arith);
-      forQ = fresh-zeros _ 4168 (omega arith);
-      workspace = fresh-zeros _ 128 (omega arith);
-    }
 
 pub large-spec : {M : Type 1} → statement M
 large-spec = tie.close (tie.spec (λ c. omega arith) (λ c. omega arith) (λ c. fresh-length _ 4168 (omega arith)) (λ c. omega arith)
     (λ c. fresh-length _ 4168 (omega arith))
-    (λ c. omega arith) (λ c. omega arith) (λ c. fresh-length _ 128 (omega arith)) on-floats-requires (λ c. omega arith) (λ c. omega arith)
+    (λ c. omega arith) (λ c. omega arith) (λ c. fresh-length _ 128 (omega arith))
+    (λ c κs. let start : tie.Start = search in fresh-rooms 4168 128 (start .pre) (omega arith) (omega arith))
+    (λ c. omega arith) (λ c. omega arith)
     (λ c. let after-on-floats : tie.After-on-floats = search in after-on-floats .on-floats .ensures))

@@ -1,39 +1,19 @@
--- Worked cases, by evaluation: patterns in, patterns out. T, Q and the count were computed by the plain model of the
--- Rust, oracle/src/model.rs. a to g and m are matrices with known outcomes of document 01.
+-- Worked cases of the run, by evaluation: patterns in, patterns out. T, Q and the count were computed by the plain model
+-- of the Rust, oracle/src/model.rs. a to g and m are matrices with known outcomes of document 01.
 use mathlib.Core.Path.{_≡_, refl}
 use Prim.Native.Nat.{ℕ, _*_}
 use mathlib.Core.Bool.{Bool, true, false}
 use mathlib.Core.List.{List, [], _∷_, map}
-use lib.Ieee.{ofBits, binary64, sub, neg, eq, lt, le}
+use lib.Ieee.{ofBits, binary64}
 use Rattle.loops.specs.Constants.{one, epsilon}
 use Rattle.loops.specs.Times.{times}
-use Rattle.loops.specs.Until.{until}
 use Rattle.matrix.specs.Known.{numbers, shown}
-use Rattle.givens.specs.Rotation.{lengthOf, signedLength, tryNew, orIdentity, newOf}
-use Rattle.givens.specs.Rotated.{turnedRows, rotated, turnedColumns, rotatedRows}
-use Rattle.hessenberg.specs.Known.{openedHess}
-use Rattle.schur.specs.declared.run.Ran.{Ran}
-use Rattle.schur.specs.declared.run.Ran.the-variants.{Ended, BudgetReached, Unfit}
 use Rattle.pass.specs.Setting.{setting}
 use Rattle.pass.specs.Pair.{pair}
-use Rattle.window.specs.Window.{small, stands, fall, endFrom, cut, startFrom, delimitHere, delimitOf}
-use Rattle.pass.specs.Pass.{firstColumn, bulge, bulgeEnd, swept, sweptPast, columnAt, reflectedAt, stepAt, chased}
-use Rattle.pass.specs.Pass.{closing, passHere, passOf}
-use Rattle.pass.specs.Block.{blockAt, discriminant, eigvalsOf, basisBy, basisOf, turnedT, turnedQ, splitAt, columnsOf}
-use Rattle.pass.specs.Block.{columnsIn, orderTwo}
-use Rattle.schur.specs.Run.{Left, closed, delimiting, after, turnTwo, turnMore, turnOf, runFrom, scaledDown}
-use Rattle.schur.specs.Run.{reducedPair, opened, answered, runFits, ranOf, runOf}
-
--- every definition that a case computes with
-unfoldable pub openedSchur : Unit {0}
-unfolding openedHess until sub lengthOf signedLength tryNew orIdentity newOf turnedRows rotated turnedColumns
-    rotatedRows
-    small stands fall endFrom cut startFrom delimitHere delimitOf firstColumn bulge bulgeEnd swept sweptPast columnAt
-    reflectedAt stepAt chased closing passHere passOf
-    blockAt discriminant eigvalsOf basisBy basisOf turnedT turnedQ splitAt columnsOf columnsIn orderTwo
-    closed delimiting after turnTwo turnMore turnOf runFrom scaledDown reducedPair opened answered runFits ranOf runOf
-    neg eq lt le
-openedSchur = tt
+use Rattle.schur.specs.declared.run.Ran.{Ran}
+use Rattle.schur.specs.declared.run.Ran.the-variants.{Ended, BudgetReached, Unfit}
+use Rattle.schur.specs.Run.{Left, runOf}
+use Rattle.schur.specs.Opened.{openedSchur, Case}
 
 -- 1 and the count; 2 with the window's start and end; 3 where something does not fit
 answerOf : Ran → List ℕ
@@ -46,12 +26,6 @@ told : Left → List (List ℕ)
 told r = answerOf (r .answer) ∷ shown (r .pair .t) ∷ shown (r .pair .q) ∷ []
 
 -- ---- one table: order, tolerance, budget and matrix; then what comes of it
-
-pub record Case : Type 0 where
-  pub order : ℕ
-  pub eps : ℕ
-  pub budget : ℕ
-  pub matrix : List ℕ
 
 case : ℕ → ℕ → ℕ → List ℕ → Case
 case n eps budget t = record { order = n; eps = eps; budget = budget; matrix = t }

@@ -1,0 +1,1 @@
+// No code: the worked cases are in specs/.
