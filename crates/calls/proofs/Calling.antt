@@ -18,7 +18,7 @@ use Rattle.plain.specs.Plain.{plain, plainOf}
 use Rattle.calls.specs.declared.Entry.the-variants.{Real, Complex, Plain}
 use Rattle.calls.specs.declared.Answer.{Answer}
 use Rattle.calls.specs.declared.Call.{Call}
-use Rattle.calls.specs.Call.{came, decomposedAnswer, checkedAnswer, withOrWithoutQ, rooted, entryOf, callOf}
+use Rattle.calls.specs.Call.{came, decomposedAnswer, checkedAnswer, withOrWithoutQ, rooted, byEntry, callOf}
 
 module _ (c : Call) (m x y z : List Float) (r : Answer) where
   pub decomposition-came : (wanted : Bool) (d : Decomposed) (x' y' z' : List Float)
@@ -29,15 +29,15 @@ module _ (c : Call) (m x y z : List Float) (r : Answer) where
 
   module _ (h : Checked) (k : r ≡ checkedAnswer h) where
     pub real-came : (x' : List Float) → c .entry ≡ Real → read h x' ≡ realRead (c .order) m x → came r x' y z ≡ callOf c m x y z
-    unfolding entryOf
+    unfolding byEntry
     real-came x' e p = rw (e, k) (ap (λ o. came (checkedAnswer (o .answer)) (o .values) y z) p)
 
     pub complex-came : (x' y' : List Float) → c .entry ≡ Complex → complexly h x' y' ≡ complexRead (c .order) m x y → came r x' y' z ≡ callOf c m x y z
-    unfolding entryOf
+    unfolding byEntry
     complex-came x' y' e p = rw (e, k) (ap (λ o. came (checkedAnswer (o .answer)) (o .re) (o .im) z) p)
 
     pub plain-came : (x' y' : List Float) → c .entry ≡ Plain → plain h x' y' ≡ plainOf (c .order) m x y → came r x' y' z ≡ callOf c m x y z
-    unfolding entryOf
+    unfolding byEntry
     plain-came x' y' e p = rw (e, k) (ap (λ o. came (checkedAnswer (o .answer)) (o .values) (o .work) z) p)
 
 -- ---- the root, by the lengths that the code tests

@@ -49,13 +49,13 @@ rooted [] x = x
 rooted (a ∷ m) x = set x 0 (rootOf a)
 
 -- m is the matrix, T or the number whose root is asked for
-unfoldable pub entryOf : Entry → Call → (m x y z : List Float) → Came
-entryOf WithQ c m x y z = withOrWithoutQ true c m x y z
-entryOf WithoutQ c m x y z = withOrWithoutQ false c m x y z
-entryOf Real c m x y z = let r = realRead (c .order) m x in came (checkedAnswer (r .answer)) (r .values) y z
-entryOf Complex c m x y z = let r = complexRead (c .order) m x y in came (checkedAnswer (r .answer)) (r .re) (r .im) z
-entryOf Plain c m x y z = let r = plainOf (c .order) m x y in came (checkedAnswer (r .answer)) (r .values) (r .work) z
-entryOf Root c m x y z = came Values (rooted m x) y z
+unfoldable pub byEntry : Entry → Call → (m x y z : List Float) → Came
+byEntry WithQ c m x y z = withOrWithoutQ true c m x y z
+byEntry WithoutQ c m x y z = withOrWithoutQ false c m x y z
+byEntry Real c m x y z = let r = realRead (c .order) m x in came (checkedAnswer (r .answer)) (r .values) y z
+byEntry Complex c m x y z = let r = complexRead (c .order) m x y in came (checkedAnswer (r .answer)) (r .re) (r .im) z
+byEntry Plain c m x y z = let r = plainOf (c .order) m x y in came (checkedAnswer (r .answer)) (r .values) (r .work) z
+byEntry Root c m x y z = came Values (rooted m x) y z
 
 abbrev pub callOf : Call → (m x y z : List Float) → Came
-callOf c = entryOf (c .entry) c
+callOf c = byEntry (c .entry) c

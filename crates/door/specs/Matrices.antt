@@ -40,8 +40,8 @@ matrices answer t q = record { answer = answer; t = t; q = q }
 -- 1 to 6; tn and qn are the lengths of what is lent for T and Q
 unfoldable pub matrixChecks : Request → (m : List ℕ) → (tn qn : ℕ) → Checked
 matrixChecks r m tn qn =
-    argumentChecks (matrixLengths (r .wanted) (8 * (r .order * r .order)) (length m) tn qn) (askedBy r) (r .budget)
-    (floatsOf m)
+    argumentChecks (matrixLengths (r .wanted) (8 * (r .order * r .order)) (length m) tn qn)
+    (askedBy r) (r .budget) (floatsOf m)
 
 -- T, and Q if it is wanted
 unfoldable pub writtenMatrices : (wanted : Bool) → Settlement → (q : List ℕ) → Matrices

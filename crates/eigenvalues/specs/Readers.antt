@@ -103,7 +103,8 @@ complexly answer re im = record { answer = answer; re = re; im = im }
 
 -- where the checks have come to c, the lists are those of the eigenvalues; they are untouched where c is a refusal
 abbrev pub eigenvaluesBy : Checked → ℕ → (t re im : List Float) → ComplexRead
-eigenvaluesBy c n t re im = complexly c (ifPassed c (table n (λ k. eigenvalueAt n t k .re)) re)
+eigenvaluesBy c n t re im =
+    complexly c (ifPassed c (table n (λ k. eigenvalueAt n t k .re)) re)
     (ifPassed c (table n (λ k. eigenvalueAt n t k .im)) im)
 
 -- T, and two numbers for each row
@@ -117,5 +118,6 @@ complexRead n t re im =
 
 -- The same of entries that are known to be finite.
 unfoldable pub complexFiniteOf : ℕ → (t re im : List Float) → ComplexRead
-complexFiniteOf n t re im = eigenvaluesBy (finiteReadable (complexLengths n (length t) (length re) (length im)) n t
-    next blockChecks n t) n t re im
+complexFiniteOf n t re im =
+    eigenvaluesBy (finiteReadable (complexLengths n (length t) (length re) (length im)) n t next blockChecks n t)
+    n t re im

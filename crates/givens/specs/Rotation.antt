@@ -37,8 +37,9 @@ signedLength x y = toExpOf x .sign ⊗ lengthOf x y
 -- made from its cosine and sine, not yet normalized: none where the length is not above eps, a NaN among them
 unfoldable pub tryNew : Float → Float → Float → Made
 tryNew x y eps =
-    cond (lt eps (lengthOf x y)) (Needed (turn (rotation (toExpOf x .magnitude ⊘ lengthOf x y) (y ⊘ signedLength x y))
-    (signedLength x y))) NoneNeeded
+    cond (lt eps (lengthOf x y))
+    (Needed (turn (rotation (toExpOf x .magnitude ⊘ lengthOf x y) (y ⊘ signedLength x y)) (signedLength x y)))
+    NoneNeeded
 
 -- in place of none the rotation that does nothing, with the norm 0
 unfoldable pub orIdentity : Made → Turn
@@ -51,5 +52,5 @@ newOf x y = orIdentity (tryNew x y zero)
 -- the rotation that takes (x, y) to (norm, 0): none where y is zero. A length of 0 is divided by all the same.
 unfoldable pub cancelY : Float → Float → Made
 cancelY x y =
-    cond (isZero y) NoneNeeded (Needed (turn (rotation (toExpOf x .magnitude ⊘ lengthOf x y) (neg y ⊘ signedLength x y))
-    (signedLength x y)))
+    cond (isZero y) NoneNeeded
+    (Needed (turn (rotation (toExpOf x .magnitude ⊘ lengthOf x y) (neg y ⊘ signedLength x y)) (signedLength x y)))

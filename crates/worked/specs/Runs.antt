@@ -1,5 +1,5 @@
--- Worked cases of the run, by evaluation: patterns in, patterns out. T, Q and the count were computed by the plain model
--- of the Rust, oracle/src/model.rs. a to g and m are matrices with known outcomes of document 01.
+-- Worked cases of the run, by evaluation: patterns in, patterns out. T, Q and the count were computed by the plain
+-- model of the Rust, oracle/src/model.rs. a to g and m are matrices with known outcomes of document 01.
 use mathlib.Core.Path.{_≡_, refl}
 use Prim.Native.Nat.{ℕ, _*_}
 use mathlib.Core.Bool.{Bool, true, false}

@@ -2,20 +2,20 @@
 use borrow.Author.Needs.{needs}
 use mathlib.Core.Path.{ap}
 use Rattle.calls.specs.declared.Answer.the-variants.{Values}
-use Rattle.calls.specs.Call.{came, withOrWithoutQ, entryOf}
+use Rattle.calls.specs.Call.{came, withOrWithoutQ, byEntry}
 use Rattle.calls.proofs.Calling.{real-came, complex-came, plain-came}
 use Rattle.calls.proofs.run.Statement.{statement}
 use Rattle.calls.proofs.run.Tie as tie
 
 returns : tie.Need-returns
-unfolding entryOf withOrWithoutQ
+unfolding byEntry withOrWithoutQ
 returns c =
     let with-q : tie.After-enum-told = search in
     let after-decompose : tie.After-decompose = search in
     rw (with-q .enum-told .given .1) (after-decompose .decompose .ensures)
 
 returns-2 : tie.Need-returns-2
-unfolding entryOf withOrWithoutQ
+unfolding byEntry withOrWithoutQ
 returns-2 c =
     let without-q : tie.After-enum-told2 = search in
     let after-decompose : tie.After-decompose2 = search in
@@ -43,7 +43,7 @@ returns-5 c =
     plain-came _ _ _ _ _ _ _ (after-checked .checked3 .ensures) _ _ (plain .enum-told5 .given .1) (after-eigenvalues .plain-eigenvalues .ensures)
 
 returns-6 : tie.Need-returns-6
-unfolding entryOf
+unfolding byEntry
 returns-6 c =
     let start : tie.Start = search in
     let root : tie.After-enum-told6 = search in

@@ -25,8 +25,9 @@ Inv-loop t n before₀ k₀ before k = Seeking n t before k
 abbrev μ-loop : tie.MeasureT-loop
 μ-loop t n before₀ k₀ before k = n - k
 
-tested : (c : tie.After-is-finite Inv-loop μ-loop) → let l =
-    c .before .before .before .before in not (c .is-finite .result) ≡ notFiniteAt (l .before .before .args .n) (l .before .before .args .t .now) (l .loop .k)
+tested : (c : tie.After-is-finite Inv-loop μ-loop)
+    → let l = c .before .before .before .before in
+    not (c .is-finite .result) ≡ notFiniteAt (l .before .before .args .n) (l .before .before .args .t .now) (l .loop .k)
 tested c =
     let at-loop : tie.At-loop Inv-loop μ-loop = search in
     finite-by _ _ _ _ _ _ _ (at-loop .loop .inv .answered) (c .before .before .answer-at .ensures) (c .before .eigenvalue-of .ensures) (c .is-finite .ensures)

@@ -31,19 +31,19 @@ abbrev μ-loop : tie.MeasureT-loop
 μ-loop m n signs q₀ last i₀ q i = i
 
 -- the two tests of a whole matrix
-first : (c : tie.After-block-fits Inv-loop μ-loop) → let x =
-    c .before .before .before .before .args in c .block-fits .result ≡ blockFits (x .n) (length (x .m .now)) (x .n) (x .n)
+first : (c : tie.After-block-fits Inv-loop μ-loop)
+    → let x = c .before .before .before .before .args in c .block-fits .result ≡ blockFits (x .n) (length (x .m .now)) (x .n) (x .n)
 first c = from-row-0 _ _ _ _ (from-column-0 _ _ _ _ (c .block-fits .ensures))
 
-second : (c : tie.After-block-fits2 Inv-loop μ-loop) → let x =
-    c .before .before .before .before .before .before .args in c .block-fits2 .result ≡ blockFits (x .n) (length (x .q .now)) (x .n) (x .n)
+second : (c : tie.After-block-fits2 Inv-loop μ-loop)
+    → let x = c .before .before .before .before .before .before .args in c .block-fits2 .result ≡ blockFits (x .n) (length (x .q .now)) (x .n) (x .n)
 second c = from-row-0 _ _ _ _ (from-column-0 _ _ _ _ (c .block-fits2 .ensures))
 
 fitted : (c : tie.Else1 Inv-loop μ-loop) → let x = c .before .before .before .before .before .args in Fits (x .n) (length (x .m .now)) (x .n) (x .n)
 fitted c = within _ _ _ _ (first (c .before)) (c .if1 .left)
 
-fitted-q : (c : tie.Else2 Inv-loop μ-loop) → let start : tie.Start Inv-loop μ-loop =
-    search in let x = start .args in Fits (x .n) (length (x .q .now)) (x .n) (x .n)
+fitted-q : (c : tie.Else2 Inv-loop μ-loop)
+    → let start : tie.Start Inv-loop μ-loop = search in let x = start .args in Fits (x .n) (length (x .q .now)) (x .n) (x .n)
 fitted-q c = within _ _ _ _ (second (c .before)) (c .if2 .left)
 
 -- after the tests

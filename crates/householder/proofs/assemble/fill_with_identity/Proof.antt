@@ -24,8 +24,8 @@ Inv-loop q₀ n i₀ q i = Filling n q₀ i q
 abbrev μ-loop : tie.MeasureT-loop
 μ-loop q₀ n i₀ q i = n - i
 
-spot : (c : tie.In-loop Inv-loop μ-loop) → let start : tie.Start Inv-loop μ-loop =
-    search in let x = start .args in Placed (x .n) (c .before .loop .i) (c .before .loop .i)
+spot : (c : tie.In-loop Inv-loop μ-loop)
+    → let start : tie.Start Inv-loop μ-loop = search in let x = start .args in Placed (x .n) (c .before .loop .i) (c .before .loop .i)
 spot c = placed _ _ _ (omega arith) (omega arith) (omega arith)
 
 loop-again : tie.Need-loop-again Inv-loop μ-loop

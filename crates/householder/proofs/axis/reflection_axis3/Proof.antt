@@ -12,7 +12,7 @@ reflection-axis3-spec = tie.close (tie.spec (λ c κs. omega arith) (λ c κs. o
     (sym (c .before .is-zero .ensures) ∙ c .if1 .taken))
     (λ c κs. omega arith) (λ c κs. omega arith) (λ c κs. omega arith)
     (λ c. let after-is-zero : tie.After-is-zero = search in let after-measure : tie.After-measure = search in
-    let after-norm-squared : tie.After-norm-squared =
-    search in rw (c .before .normalize .ensures, c .before .before .unscale .ensures, c .before .before .before .sqrt .ensures)
+    let after-norm-squared : tie.After-norm-squared = search in
+    rw (c .before .normalize .ensures, c .before .before .unscale .ensures, c .before .before .before .sqrt .ensures)
     (axis-made (measured _ _ _ _ _ (omega arith) (after-norm-squared .norm-squared .ensures) (after-measure .measure .ensures))
     (sym (after-is-zero .is-zero .ensures) ∙ c .before .before .before .before .if1 .left))))

@@ -13,19 +13,19 @@ use Rattle.pass.proofs.Fitted.{no-matrix, too-large, behind, present}
 use Rattle.pass.proofs.shift.double_shift.Statement.{statement}
 use Rattle.pass.proofs.shift.double_shift.Tie as tie
 
-whole : (c : tie.After-block-fits) → let x =
-    c .before .before .before .args in c .block-fits .result ≡ blockFits (x .asked .order) (length (x .t .now)) (x .asked .order) (x .asked .order)
+whole : (c : tie.After-block-fits)
+    → let x = c .before .before .before .args in c .block-fits .result ≡ blockFits (x .asked .order) (length (x .t .now)) (x .asked .order) (x .asked .order)
 whole c = from-row-0 _ _ _ _ (from-column-0 _ _ _ _ (c .block-fits .ensures))
 
 matrix : (c : tie.Else1) → let x = c .before .before .before .before .args in Fits (x .asked .order) (length (x .t .now)) (x .asked .order) (x .asked .order)
 matrix c = within _ _ _ _ (whole (c .before)) (c .if1 .left)
 
-fitted : (c : tie.Else3) → let x =
-    c .before .before .before .before .before .before .args in Fits (x .asked .order) (length (x .t .now)) (x .w .end + 1) (x .w .end + 1)
+fitted : (c : tie.Else3)
+    → let x = c .before .before .before .before .before .before .args in Fits (x .asked .order) (length (x .t .now)) (x .w .end + 1) (x .w .end + 1)
 fitted c = present _ _ _ (matrix (search)) (omega arith)
 
-there : (c : tie.Else3) → let x =
-    c .before .before .before .before .before .before .args in blockFits (x .asked .order) (length (x .t .now)) (x .w .end + 1) (x .w .end + 1) ≡ true
+there : (c : tie.Else3)
+    → let x = c .before .before .before .before .before .before .args in blockFits (x .asked .order) (length (x .t .now)) (x .w .end + 1) (x .w .end + 1) ≡ true
 there c = let f = fitted c in fitting _ _ _ _ (f .order) (f .size) (f .inRows) (f .inCols)
 
 returns : tie.Need-returns

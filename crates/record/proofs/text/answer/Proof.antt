@@ -42,7 +42,8 @@ unfit c =
     let put : tie.After-put-refused = search in
     let told : tie.After-r = search in
     let examine : tie.After-examine = search in (
-      all-printed (omega arith) (put-as (text-by _ (sym (told .r .given .1) ∙ examine .examine .ensures)) (put-within (omega arith) (put .put-refused .ensures))),
+      all-printed (omega arith)
+          (put-as (text-by _ (sym (told .r .given .1) ∙ examine .examine .ensures)) (put-within (omega arith) (put .put-refused .ensures))),
       (omega arith, sym (length-take-le _ _ (omega arith))),
     )
 

@@ -8,8 +8,8 @@ use Rattle.schur.proofs.run.run_large.Statement.{statement}
 use Rattle.schur.proofs.run.run_large.Tie as tie
 
 -- the run's end
-ran : (c : tie.After-run-from) → let start : tie.Start =
-    search in let x = start .args in running (c .run-from .result) (pair (c .run-from .last .1 .0) (c .run-from .last .1 .1 .0))
+ran : (c : tie.After-run-from)
+    → let start : tie.Start = search in let x = start .args in running (c .run-from .result) (pair (c .run-from .last .1 .0) (c .run-from .last .1 .1 .0))
     ≡ runFrom (x .asked) (x .budget) (opened (x .asked) (pair (x .t .now) (x .q .now)) (x .work .now))
 ran c =
     let begun : tie.After-begin = search in
