@@ -10,12 +10,13 @@ use crate::say::numbers;
 use crate::slices;
 use crate::vectors;
 
-// A call has some of these numbers, and zeros for the others.
+// A call has some of these numbers, and zeros for the others. In the functions below `group` is the line of the list of
+// names (`main`) that its name stands in, 0 for the first, and k its place in the line, 1 for the first.
 pub(crate) struct Case {
     // order and number of entries of the matrix, or length of the slice
     pub(crate) n: usize,
     pub(crate) len: usize,
-    // length of the other side, of the axis, of the workspace, of Q
+    // length of the other side, of the axis, of the vector, of the workspace, of Q
     pub(crate) k: usize,
     // first row, number of rows, first column, column behind the last or number of columns
     pub(crate) row: usize,
@@ -25,120 +26,118 @@ pub(crate) struct Case {
     // seed of the matrix or slice; seed of what has the length k, or of the rotation
     pub(crate) seed: usize,
     pub(crate) other: usize,
-    // number of signs, or of the columns that are cleared before the last
+    // length and seed of the signs
     pub(crate) m: usize,
-    // how many numbers were read, the | of the list counted in
-    pub(crate) count: usize,
+    pub(crate) third: usize,
 }
 
-// A call of which nothing is read.
-pub(crate) fn unread() -> Case {
+// The numbers, by their places in the list of names.
+pub(crate) fn case_of(w: &[usize; 10]) -> Case {
     Case {
-        n: 0,
-        len: 0,
-        k: 0,
-        row: 0,
-        rows: 0,
-        c0: 0,
-        c1: 0,
-        seed: 0,
-        other: 0,
-        m: 0,
-        count: 1,
+        n: w[0],
+        len: w[1],
+        k: w[2],
+        row: w[3],
+        rows: w[4],
+        c0: w[5],
+        c1: w[6],
+        seed: w[7],
+        other: w[8],
+        m: w[9],
+        third: 0,
     }
 }
 
-// With a number at its place.
-pub(crate) fn stored(c: Case, place: u8, number: usize) -> Case {
-    let mut d = c;
-    match place {
-        b'0' => d.n = number,
-        b'1' => d.len = number,
-        b'2' => d.k = number,
-        b'3' => d.row = number,
-        b'4' => d.rows = number,
-        b'5' => d.c0 = number,
-        b'6' => d.c1 = number,
-        b'7' => d.seed = number,
-        b'8' => d.other = number,
-        _ => d.m = number,
-    }
-    d
-}
-
-fn change(group: usize, k: usize, c: Case, t: &mut [f64], a: &[f64]) {
-    match group {
-        0 => slices::change(k, t, drawn(c.seed, c.len), a),
-        1 => matrix::put(t, c.n, c.row, c.c0, drawn(4, 1)),
-        2 => rotations::rotate(k, c, t),
-        3 => reflections::by_slice(k, c, t, a),
-        4 => reflections::by_three(k, c, t),
-        _ => reflections::by_two(k, c, t),
-    }
-}
-
-// `block_fits` has its number of entries at `other`: it is given no matrix.
-fn of_block(k: usize, c: Case, t: &[f64]) {
-    if k == 0 {
-        number(matrix::entry(t, c.n, c.row, c.c0));
-        return;
-    }
-    flag(matrix::block_fits(c.n, c.other, c.row, c.rows, c.c0, c.c1));
-}
-
-fn by_reading(group: usize, k: usize, c: Case, t: &[f64], a: &[f64]) {
-    match group {
-        6 => number(slices::sum(k, t, a)),
-        7 => of_block(k, c, t),
-        8 => vectors::of_two(k, c.seed),
-        9 => vectors::of_three(k, c.seed),
-        _ => rotations::of_seed(k, c.seed),
-    }
-}
-
-// What is said of the first groups is all of t afterwards.
-fn one_changed(group: usize, k: usize, c: Case, t: &mut [f64], a: &[f64]) {
-    if group <= 5 {
-        change(group, k, c, t, a);
-        numbers(t);
-    } else {
-        by_reading(group, k, c, t, a);
-    }
-}
-
-fn tell(group: usize, k: usize, c: Case, t: &mut [f64], a: &mut [f64]) {
-    if group == 11 {
-        reductions::tell(k, c, t, a);
-    } else {
-        one_changed(group, k, c, t, a);
-    }
-}
-
-// With what a call does not have in its line: the seed of the matrix of `put` and of `entry`, what a reduction needs.
-fn fixed(group: usize, k: usize, c: Case) -> Case {
+// A group is a line of the list of names in `main`, counted from 0.
+//
+// The numbers that a call does not have in its line: the seeds of what is written to, of the signs, of the matrix of an
+// entry; and what a reduction needs.
+fn fixed(group: usize, c: Case) -> Case {
     let mut d = c;
     match group {
+        // put
         1 => d.seed = 7,
-        7 => d.seed = 15,
-        11 => d = reductions::sized(k, c),
+        // clear_column
+        6 => d.other = 40,
+        // assemble_q
+        7 => {
+            d.other = 48;
+            d.third = 13;
+        }
+        8 => d = reductions::sized(c, c.n),
+        9 => d = reductions::sized(c, reductions::columns(c)),
+        // entry
+        12 => d.seed = 15,
         _ => {}
     }
     d
 }
 
+// What is said of these is all of t afterwards.
+fn change(group: usize, k: usize, c: Case, t: &mut [f64], a: &[f64]) {
+    match group {
+        0 => slices::change(k, t, drawn(c.seed, c.len)),
+        1 => matrix::put(t, c.n, c.row, c.c0, drawn(4, 1)),
+        2 => rotations::rotate(k, c, t),
+        3 => reflections::columns(k, c, t, a),
+        4 => reflections::rows(k, c, t, a),
+        _ => reflections::rows(k % 4 + 3, c, t, a),
+    }
+}
+
+fn changed(group: usize, k: usize, c: Case, t: &mut [f64], a: &[f64]) {
+    change(group, k, c, t, a);
+    numbers(t);
+}
+
+// `block_fits` has its number of entries at `other`: it is given no matrix.
+fn by_reading(group: usize, k: usize, c: Case, t: &[f64], a: &[f64]) {
+    match group {
+        11 => number(slices::sum(k, t)),
+        12 => number(matrix::entry(t, c.n, c.row, c.c0)),
+        13 => flag(matrix::block_fits(c.n, c.other, c.row, c.rows, c.c0, c.c1)),
+        14 => number(vectors::sum(k, c.seed)),
+        15 => vectors::change(k, c.seed),
+        _ => rotations::of_seed(k, c.seed),
+    }
+}
+
+fn tell(group: usize, k: usize, c: Case, t: &mut [f64], a: &mut [f64], w: &mut [f64]) {
+    match group {
+        0..=5 => changed(group, k, c, t, a),
+        6 => reductions::clear(k, c, t, a),
+        7 => reductions::assemble(t, c.n, w, a),
+        8..=9 => reductions::reduce(group, k, c, t, a, w),
+        10 => slices::two(k, t, a),
+        _ => by_reading(group, k, c, t, a),
+    }
+}
+
 // Says what a call answers; false where there is no room for its numbers.
 pub(crate) fn run(group: usize, k: usize, given: Case) -> bool {
-    let c = fixed(group, k, given);
+    let c = fixed(group, given);
     let len = c.len;
     let other = c.k;
+    let third = c.m;
     if 81 < len {
         return false;
     }
     if 81 < other {
         return false;
     }
+    if 81 < third {
+        return false;
+    }
     let mut t = numbers_of(c.seed);
     let mut a = numbers_of(c.other);
-    tell(group, k, c, &mut t[0..len], &mut a[0..other]);
+    let mut w = numbers_of(c.third);
+    tell(
+        group,
+        k,
+        c,
+        &mut t[0..len],
+        &mut a[0..other],
+        &mut w[0..third],
+    );
     true
 }

@@ -25,16 +25,17 @@ fn made(m: Made) {
     }
 }
 
-// From the first two numbers of a seed, for `cancel_y` the second one first. The tolerance is the third's magnitude.
+// From the first two numbers of a seed, for `cancel_y` the second one first; the tolerance is the third one's
+// magnitude.
 pub(crate) fn of_seed(k: usize, seed: usize) {
     let x = drawn(seed, 0);
     let y = drawn(seed, 1);
     let tolerance = scalar::modulus(drawn(seed, 2));
     match k {
-        0 => tell(Rotation::identity()),
-        1 => turn(Rotation::new(x, y)),
-        2 => made(Rotation::try_new(x, y, tolerance)),
-        3 => made(Rotation::cancel_y(y, x)),
+        1 => tell(Rotation::identity()),
+        2 => turn(Rotation::new(x, y)),
+        3 => made(Rotation::try_new(x, y, tolerance)),
+        4 => made(Rotation::cancel_y(y, x)),
         _ => tell(Rotation { c: x, s: y }.inverse()),
     }
 }
@@ -43,7 +44,7 @@ pub(crate) fn rotate(k: usize, c: Case, t: &mut [f64]) {
     let m = Rotation::new(drawn(c.other, 0), drawn(c.other, 1));
     let r = m.rotation;
     match k {
-        0 => r.rotate(t, c.n, c.row, c.c0, c.c1),
+        1 => r.rotate(t, c.n, c.row, c.c0, c.c1),
         _ => r.rotate_rows(t, c.n, c.c0, c.rows),
     }
 }

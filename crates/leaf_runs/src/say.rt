@@ -5,12 +5,13 @@ pub(crate) fn word(w: &[u8]) {
     io::write_all(STDOUT_FILENO, w);
 }
 
+pub(crate) fn whole(n: usize) {
+    word(b" ");
+    io::print_decimal(STDOUT_FILENO, n as u64);
+}
+
 pub(crate) fn flag(b: bool) {
-    if b {
-        word(b" 1");
-    } else {
-        word(b" 0");
-    }
+    whole(b as usize);
 }
 
 pub(crate) fn number(x: f64) {

@@ -23,6 +23,19 @@ pub(crate) fn three(seed: usize) -> Vector3 {
     }
 }
 
+pub(crate) fn sum(k: usize, seed: usize) -> f64 {
+    let u = two(seed);
+    let v = three(seed);
+    match k {
+        1 => u.dot(two(16)),
+        2 => v.dot(three(16)),
+        3 => u.norm_squared(),
+        4 => v.norm_squared(),
+        5 => u.norm(),
+        _ => v.norm(),
+    }
+}
+
 fn tell2(v: Vector2) {
     number(v.x);
     number(v.y);
@@ -46,26 +59,16 @@ fn axis3(a: Axis3) {
     tell3(a.axis);
 }
 
-pub(crate) fn of_two(k: usize, seed: usize) {
+pub(crate) fn change(k: usize, seed: usize) {
     let u = two(seed);
-    match k {
-        0 => number(u.dot(two(16))),
-        1 => number(u.norm_squared()),
-        2 => number(u.norm()),
-        3 => tell2(u.unscale(drawn(seed, 3))),
-        4 => tell2(u.normalize()),
-        _ => axis2(householder::reflection_axis2(u)),
-    }
-}
-
-pub(crate) fn of_three(k: usize, seed: usize) {
     let v = three(seed);
+    let divisor = drawn(seed, 3);
     match k {
-        0 => number(v.dot(three(16))),
-        1 => number(v.norm_squared()),
-        2 => number(v.norm()),
-        3 => tell3(v.unscale(drawn(seed, 3))),
+        1 => tell2(u.unscale(divisor)),
+        2 => tell3(v.unscale(divisor)),
+        3 => tell2(u.normalize()),
         4 => tell3(v.normalize()),
+        5 => axis2(householder::reflection_axis2(u)),
         _ => axis3(householder::reflection_axis3(v)),
     }
 }
