@@ -39,6 +39,11 @@ toldOf InputCutShort = withoutPlace 12
 toldOf UnknownKind = withoutPlace 13
 toldOf InputLengthWrong = withoutPlace 14
 
+-- what checks tell: the number and the place of the refusal, 0 where all have passed
+unfoldable pub checkedTold : Checked → Told
+checkedTold Passed = withoutPlace 0
+checkedTold (Refused r) = toldOf r
+
 -- ---- checks: the first that does not pass is what is answered
 
 -- r where the fault is there
