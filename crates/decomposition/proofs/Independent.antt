@@ -75,7 +75,7 @@ module _ (asked : Setting) (budget : ℕ) (m t q q' w : List Float) where
 
   runs-same : {c : ℕ} (b d : Bool) → decompositionOf (wanting b asked) budget m (pair t q) w .answer ≡ Accepted c
       → Same (ranOf (wanting b asked) budget (pair m q) w) (ranOf (wanting d asked) budget (pair m q') w)
-  runs-same b d e = let fits = accepted-fits b e in ran-same b d asked budget q q' fits fits
+  runs-same b d e = let fits = accepted-fits b e in ran-same b d asked budget m q q' w w fits fits
 
   -- both accepted: one count, one T
   pub accepted-same : {c c' : ℕ} (b d : Bool) → decompositionOf (wanting b asked) budget m (pair t q) w .answer ≡ Accepted c

@@ -105,7 +105,7 @@ module _ (lengths : Checked) (asked : Setting) (budget : ℕ) (m : List Float) (
       let z = lent .sizes (r .lent) in
       let z' = lent' .sizes (r .lent) in
       let unfelt = lent-not-felt asked m (p .q) (p' .q) w w'
-      (record { fits = sizes-run (r .some) (r .order) z; fits' = sizes-run (r .some) (r .order) z'; q = lent .q (r .lent); q' = lent' .q (r .lent) }) budget in
+      (record { fits = sizes-run (r .some) (r .order) z; fits' = sizes-run (r .some) (r .order) z'; forQ = lent .q (r .lent); forQ' = lent' .q (r .lent) }) budget in
       rw (run-judged lengths asked budget m p w h, run-judged lengths asked budget m p' w' h)
       (judged-same asked (ranOf asked budget (pair m (p .q)) w) (ranOf asked budget (pair m (p' .q)) w') w w' unfelt (z .room ∙ sym (z' .room)))
 

@@ -43,7 +43,7 @@ module _ {vn : ℕ} (n : ℕ) (m w w' : List Float) (sized : Sized n (length m) 
       let asked = plainAsked n in
       let fits : RunFits n (length m) (length w) = record { some = sized .some; order = sized .order; size = sized .square; room = sized .room } in
       let fits' : RunFits n (length m) (length w') = record { some = sized .some; order = sized .order; size = sized .square; room = sym room ∙ sized .room } in
-      let unfelt = lent-not-felt asked m [] [] w w' (record { fits = fits; fits' = fits'; q = λ e. cc; q' = λ e. cc }) plainBudget in
+      let unfelt = lent-not-felt asked m [] [] w w' (record { fits = fits; fits' = fits'; forQ = λ e. cc; forQ' = λ e. cc }) plainBudget in
       judged-same asked (ranOf asked plainBudget (pair m []) w) (ranOf asked plainBudget (pair m []) w') w w' unfelt room
 
   run-lent : plainRun n (plainRan n m w) ≡ plainRun n (plainRan n m w')

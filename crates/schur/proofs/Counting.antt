@@ -1,6 +1,6 @@
 -- What a run answers, by the definition's count, which is of the matrix alone: it ends, with that count, below the budget; or the count is the budget or more.
 -- Assumes nothing.
-use Prim.Native.Nat.{ℕ, _+_, _<_, _≤_}
+use Prim.Native.Nat.{ℕ, _+_, _*_, _<_, _≤_}
 use mathlib.Core.Bool.{Bool, true, false, cond, true≢false}
 use mathlib.Core.Path.{_≡_, refl, sym, ap, _∙_, subst}
 use mathlib.Core.List.{List}
@@ -127,7 +127,7 @@ module _ (asked : Setting) (budget : ℕ) (p : Pair) (w : List Float) (fits : Ru
   count-alike =
       let n = asked .order in
       let b = asked .wanted in
-      let alone = opened-alike fits (fits-fresh fits) b b (p .q) (zeros (n * n)) in
+      let alone = opened-alike asked (p .t) w (zeros (2 * n)) fits (fits-fresh fits) b b (p .q) (zeros (n * n)) in
       ap (λ s. s .passes) (runFrom-alike b b asked largestBudget _ _ alone .state)
 
   counted : Counts (passesAt (runFrom asked budget (opened asked p w))) budget (passesAt (runFrom asked largestBudget (openedOf asked (p .t))))
@@ -163,11 +163,13 @@ module _ (asked : Setting) (budget : ℕ) (p : Pair) (w : List Float) (fits : Ru
   -- A budget above the count is not felt: the run is that with the largest budget.
   pub budget-not-felt : count < budget → ranOf asked budget p w ≡ ranOf asked largestBudget p w
   unfolding ranOf countOf
-  budget-not-felt l = go (eqb (asked .order) 1) (eqb (asked .order) 2) l
+  budget-not-felt l = go (eqb (asked .order) 1) (eqb (asked .order) 2) _ _ l
     where
-      go : (a b : Bool) → cond a 0 (cond b 0 (passesAt (runFrom asked largestBudget (openedOf asked (p .t))))) < budget → {x y : Left}
+      go : (a b : Bool) (x y : Left) → cond a 0 (cond b 0 (passesAt (runFrom asked largestBudget (openedOf asked (p .t))))) < budget
           → cond a x (cond b y (answered budget (largest (p .t)) (runFrom asked budget (opened asked p w))))
           ≡ cond a x (cond b y (answered largestBudget (largest (p .t)) (runFrom asked largestBudget (opened asked p w))))
-      go true b m = refl
-      go false true m = refl
-      go false false m = answered-alike budget (largest (p .t)) _ _ (ends-at asked (opened asked p w) (opened-none asked p w) budget most (omega (arith, count-alike))) (omega (arith, count-alike)) most
+      go true b x y m = refl
+      go false true x y m = refl
+      go false false x y m =
+          answered-alike budget (largest (p .t)) _ _ (ends-at asked (opened asked p w) (opened-none asked p w) budget most (omega (arith, count-alike)))
+          (omega (arith, count-alike)) most

@@ -86,7 +86,8 @@ runFrom-alike b d asked budget x y a =
     a
 
 -- one matrix, and two workspaces with room for its reduction
-module _ {asked : Setting} {t w w' : List Float} (fits : RunFits (asked .order) (length t) (length w)) (fits' : RunFits (asked .order) (length t) (length w')) where
+module _ (asked : Setting) (t w w' : List Float) (fits : RunFits (asked .order) (length t) (length w))
+    (fits' : RunFits (asked .order) (length t) (length w')) where
   abbrev n : ℕ
   n = asked .order
 
@@ -130,13 +131,13 @@ answered-same budget amax x y a =
 
 -- Two runs on one matrix, with one tolerance and budget: whether Q is wanted or not, and whatever is lent for it and for the workspace, they answer the same
 -- (the count, or the window at which the budget was reached) and leave the same T.
-pub ran-same : {t w w' : List Float} (b d : Bool) (asked : Setting) (budget : ℕ) (q q' : List Float) → RunFits (asked .order) (length t) (length w)
+pub ran-same : (b d : Bool) (asked : Setting) (budget : ℕ) (t q q' w w' : List Float) → RunFits (asked .order) (length t) (length w)
     → RunFits (asked .order) (length t) (length w') → Same (ranOf (wanting b asked) budget (pair t q) w) (ranOf (wanting d asked) budget (pair t q') w')
 unfolding ranOf
-ran-same {t} b d asked budget q q' fits fits' =
+ran-same b d asked budget t q q' w w' fits fits' =
     same-cond (eqb (asked .order) 1) (record { answer = refl; t = refl })
     (same-cond (eqb (asked .order) 2) (record { answer = refl; t = orderTwo-t b d asked (pair t q) (pair t q') refl })
-    (answered-same budget (largest t) _ _ (runFrom-alike b d asked budget _ _ (opened-alike fits fits' b d q q'))))
+    (answered-same budget (largest t) _ _ (runFrom-alike b d asked budget _ _ (opened-alike asked t w w' fits fits' b d q q'))))
 
 -- the same of the function itself, which tests what it is lent
 pub q-not-felt : (b d : Bool) (asked : Setting) (budget : ℕ) (t q q' w : List Float)
@@ -147,5 +148,5 @@ q-not-felt b d asked budget t q q' w = go (runFits (asked .order) (length t) (le
     go : (x : Bool) → runFits (asked .order) (length t) (length w) ≡ x
         → Same (cond x (ranOf (wanting b asked) budget (pair t q) w) (left Unfit (pair t q)))
         (cond x (ranOf (wanting d asked) budget (pair t q') w) (left Unfit (pair t q')))
-    go true h = let fits = run-fitting _ _ _ h in ran-same b d asked budget q q' fits fits
+    go true h = let fits = run-fitting _ _ _ h in ran-same b d asked budget t q q' w w fits fits
     go false h = record { answer = refl; t = refl }

@@ -76,7 +76,7 @@ module _ (lengths : Checked) (asked : Setting) (budget : ℕ) (m : List Float) (
       let r = all-right _ _ _ _ h in
       let z = lent (r .lent) in
       let size = z .alike ∙ z .square in
-      let alone = fresh-same asked budget (p .q) (sizes-run (r .some) (r .order) z) in
+      let alone = fresh-same asked budget m (p .q) w (sizes-run (r .some) (r .order) z) in
       subst (QuasiTriangular (asked .order)) (sym (alone .t))
       (ended-shape asked budget m (r .some) (r .order) size (found-finite (asked .order) m (r .order) size (r .entries)) none (sym (alone .answer) ∙ e))
 
