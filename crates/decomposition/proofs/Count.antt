@@ -14,10 +14,9 @@ use Rattle.refusal.specs.declared.refusal.Checked.the-variants.{Passed, Refused
 use Rattle.refusal.specs.Refusal.{toldOf, withoutPlace}
 use Rattle.refusal.proofs.ChecksInTurn.{refused-not-passed, Only, only-next, only-at}
 use Rattle.refusal.proofs.PassedChecks.{only-asked}
-use Rattle.window.specs.declared.Window.{Window}
 use Rattle.pass.specs.declared.setting.Setting.{Setting}
 use Rattle.pass.specs.Pair.{Pair, pair}
-use Rattle.schur.specs.declared.run.Ran.the-variants.{Ended, BudgetReached}
+use Rattle.schur.specs.declared.run.Ran.{Ran}
 use Rattle.schur.specs.Run.{Left, ranOf, largestBudget, countOf}
 use Rattle.schur.proofs.Counting.{Tells, ended, reached, ran-tells, below-ended, budget-not-felt}
 use Rattle.schur.proofs.RunAnswers.{RunFits}
@@ -92,24 +91,19 @@ module _ (lengths : Checked) (asked : Setting) (m : List Float) (p : Pair) (w : 
     pub tells : checks ≡ Passed → Tells ran count budget
     tells h = ran-tells asked budget (pair m (p .q)) w (fitting h) (most h)
 
-    -- what is said of a run that ended, and of one that reached its budget
-    said-ended : {c : ℕ} → ran .answer ≡ Ended c → verdict asked (ran .answer) (ran .pair) ≡ resultChecks asked (ran .pair)
-    unfolding verdict
-    said-ended f = ap (λ a. verdict asked a (ran .pair)) f
-
-    said-reached : {v : Window} → ran .answer ≡ BudgetReached v → verdict asked (ran .answer) (ran .pair) ≡ Refused refusal.BudgetReached
-    unfolding verdict
-    said-reached f = ap (λ a. verdict asked a (ran .pair)) f
+    -- what is said of a run that answered so
+    said : {a : Ran} → ran .answer ≡ a → verdict asked (ran .answer) (ran .pair) ≡ verdict asked a (ran .pair)
+    said f = ap (λ a. verdict asked a (ran .pair)) f
 
     -- accepted: with the definition's count, which lies below the budget
     pub accepted-count : {c : ℕ} → answer ≡ Accepted c → (c ≡ count) × (c < budget)
-    unfolding passesOf
+    unfolding verdict passesOf
     accepted-count {c} e =
         let h = accepted-passed lengths asked budget m p w e in
         let a = as-run lengths asked budget m p w e in
         elim (tells h) [
           | ended k f ↦ (let same : c ≡ count = a .1 ∙ ap passesOf f in (same, omega (arith, k (budgeted h))))
-          | reached _ _ f ↦ absurd (refused-not-passed _ (sym (said-reached f) ∙ a .0))
+          | reached _ _ f ↦ absurd (refused-not-passed _ (sym (said f) ∙ a .0))
         ]
 
     -- what an entry promises of its count
@@ -119,27 +113,28 @@ module _ (lengths : Checked) (asked : Setting) (m : List Float) (p : Pair) (w : 
 
     -- 7: only if the count is the budget or more, and whenever it is
     pub seven-reached : checks ≡ Passed → decomposedTold answer .number ≡ 7 → budget ≤ count
+    unfolding verdict
     seven-reached h e =
         let d = told-declined answer 7 (omega arith) e in
         let a = as-refused lengths asked budget m p w h (d .1 .0) in
         elim (tells h) [
-          | ended _ f ↦ (let k = subst Results (sym (said-ended f) ∙ a .0) (result-numbers asked _) in absurd (omega (arith, d .1 .1)))
+          | ended _ f ↦ (let k = subst Results (sym (said f) ∙ a .0) (result-numbers asked _) in absurd (omega (arith, d .1 .1)))
           | reached _ k _ ↦ k
         ]
 
     pub reached-seven : checks ≡ Passed → budget ≤ count → decomposedTold answer ≡ withoutPlace 7
-    unfolding toldOf
+    unfolding verdict toldOf
     reached-seven h l = elim (tells h) [
       | ended k _ ↦ absurd (omega (arith, k (budgeted h)))
-      | reached _ _ f ↦ declined-told answer (refused-run lengths asked budget m p w h (said-reached f))
+      | reached _ _ f ↦ declined-told answer (refused-run lengths asked budget m p w h (said f))
     ]
 
     -- Below the budget the answer is the run's own: accepted with that count, or 8 or 9.
     pub below-own : checks ≡ Passed → count < budget → Own answer count
-    unfolding passesOf
+    unfolding verdict passesOf
     below-own h l =
         let e = below-ended asked budget (pair m (p .q)) w (fitting h) (most h) l in
-        go (resultChecks asked (ran .pair)) (said-ended e) (result-numbers asked _) (ap passesOf e)
+        go (resultChecks asked (ran .pair)) (said e) (result-numbers asked _) (ap passesOf e)
       where
         go : (c : Checked) → verdict asked (ran .answer) (ran .pair) ≡ c → Results c → passesOf (ran .answer) ≡ count → Own answer count
         go Passed k numbers passes = accepted (accepted-run lengths asked budget m p w h k ∙ ap Accepted passes)

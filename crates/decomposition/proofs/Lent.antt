@@ -114,7 +114,7 @@ module _ (lengths : Checked) (asked : Setting) (budget : ℕ) (m : List Float) (
     where
       go : (c : Checked) → checks ≡ c → entryOf lengths asked budget m p w .answer ≡ entryOf lengths asked budget m p' w' .answer
       go Passed h = entry-lent h .answer
-      go (Refused r) h = ap (λ o. o .answer) (untouched lengths asked budget m p w h ∙ sym (untouched lengths asked budget m p' w' h))
+      go (Refused r) h = ap (λ o. o .answer) (untouched lengths asked budget m p w h) ∙ sym (ap (λ o. o .answer) (untouched lengths asked budget m p' w' h))
 
 -- ---- the decomposition
 

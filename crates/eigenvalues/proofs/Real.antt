@@ -14,11 +14,12 @@ use Rattle.refusal.specs.declared.refusal.Refusal.{Refusal}
 use Rattle.refusal.specs.declared.refusal.Refusal.the-variants.{WrongLength, ComplexEigenvalues}
 use Rattle.refusal.specs.declared.refusal.Checked.{Checked}
 use Rattle.refusal.specs.declared.refusal.Checked.the-variants.{Passed, Refused}
-use Rattle.refusal.specs.Refusal.{toldOf, refuse, refuseAt, ifPassed}
+use Rattle.refusal.specs.Refusal.{toldOf, checkedTold, refuse, refuseAt, ifPassed}
 use Rattle.refusal.specs.Checks.{lengthCheck}
 use Rattle.refusal.proofs.ChecksInTurn.{next-passed, next-passes, next-on, next-second, refuse-passed, refuse-refused, refuseAt-passed, Only, only-next}
 use Rattle.refusal.proofs.ChecksInTurn.{only-at}
 use Rattle.refusal.proofs.PassedChecks.{order-passes, length-passed, length-passes, given-passed, given-passes, only-length, only-given}
+use Rattle.refusal.proofs.Numbers.{none-told, ten-told}
 use Rattle.refusal.proofs.Shape.{nowhere-finite, finite-nowhere, nowhere-shape, shape-nowhere}
 use Rattle.eigenvalues.specs.Blocks.{paired}
 use Rattle.eigenvalues.specs.Readers.{shapeCheck, readable, anyPaired, pairCheck, realChecks, diagonal, Read, read, leftBy, diagonalBy, realLengths}
@@ -144,11 +145,12 @@ module _ (n : ℕ) (t values : List Float) where
       (readable-given (a .0), any-nonzero n t (refuse-refused _ _ (a .1)))
 
   pub real-answer : RealAnswer n t values answer (realRead n t values .values)
+  unfolding checkedTold toldOf
   real-answer = record {
-    real = λ g z. (let h = answers-real g z in (h, passed-values h));
-    complex = λ g o. (let h = answers-complex g o in (h, refused-values h));
-    only-real = real-only;
-    only-complex = complex-only;
+    real = λ g z. (let h = answers-real g z in (ap (λ c. checkedTold c .number) h, passed-values h));
+    complex = λ g o. (let h = answers-complex g o in (ap checkedTold h, refused-values h));
+    only-real = λ e. real-only (none-told e);
+    only-complex = λ e. complex-only (ten-told e);
   }
 
   -- what `eigenvalues` promises
