@@ -116,9 +116,9 @@ module _ (lengths : Checked) (asked : Setting) (m : List Float) (p : Pair) (w : 
     unfolding verdict
     seven-reached h e =
         let d = told-declined answer 7 (omega arith) e in
-        let a = as-refused lengths asked budget m p w h (d .1 .0) in
+        let a = as-refused lengths asked budget m p w h (d .1) in
         elim (tells h) [
-          | ended _ f ↦ (let k = subst Results (sym (said f) ∙ a .0) (result-numbers asked _) in absurd (omega (arith, d .1 .1)))
+          | ended _ f ↦ (let k = subst Results (sym (said f) ∙ a .0) (result-numbers asked _) in absurd (omega (arith, d .2)))
           | reached _ k _ ↦ k
         ]
 

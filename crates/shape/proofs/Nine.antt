@@ -84,14 +84,14 @@ module _ (lengths : Checked) (asked : Setting) (budget : ℕ) (m : List Float) (
   unfolding verdict toldOf
   no-nine h none e =
       let d = told-declined answer 9 (omega arith) e in
-      let a = as-refused lengths asked budget m p w h (d .1 .0) in
+      let a = as-refused lengths asked budget m p w h (d .1) in
       elim (tells lengths asked m p w lent budget h) [
         | ended _ f ↦
             (let said = sym (ap (λ a. verdict asked a (ran .pair)) f) ∙ a .0 in
-            let eight = subst (Only (λ r. toldOf r .number ≡ 8)) said (only-eight asked (ran .pair) (run-shape h none f)) in omega (arith, d .1 .1))
+            let eight = subst (Only (λ r. toldOf r .number ≡ 8)) said (only-eight asked (ran .pair) (run-shape h none f)) in omega (arith, d .2))
         | reached _ _ f ↦
             (let said = sym (ap (λ a. verdict asked a (ran .pair)) f) ∙ a .0 in
-            let seven = subst (Only (λ r. toldOf r .number ≡ 7)) said refl in omega (arith, d .1 .1))
+            let seven = subst (Only (λ r. toldOf r .number ≡ 7)) said refl in omega (arith, d .2))
       ]
 
   -- 9 after a run: so an axis was not zero, and its squares vanished
