@@ -6,7 +6,8 @@ use mathlib.Core.List.{List, [], _∷_}
 use native.Mathlib.Omega.{arith}
 use borrow.Author.Tests.{ltb-true, ltb-false, lt-ltb, le-ltb}
 use lib.Dec.{ltb}
-use lib.ListN.{length, take, drop}
+use lib.IntN.{pos}
+use lib.ListN.{length, take, drop, replicate, length-replicate}
 use lib.Seq.{paste, length-paste, take-paste, drop-paste, take-take, take-at, drop-drop, length-take-le}
 use Rattle.reading.specs.declared.Reading.{Reading}
 use Rattle.reading.specs.declared.Reading.the-variants.{More, End, Broken}
@@ -110,7 +111,7 @@ on-none done buf upto true t e =
     absurd (let x : _≡_ {A = ℕ} 0 1 = cc in omega arith)
 on-none done buf upto {r} {exit} false t e = stays done buf (Bytes done) r exit upto refl (sym (full [] done buf (ltb-false done (length buf) t)) ∙ e)
 
-kept-from : (reads : List Read) (done : ℕ) (buf : List ℕ) {r : Filled} {exit : List ℕ} → done ≤ length buf → fillOf reads done buf ≡ over r exit
+pub kept-from : (reads : List Read) (done : ℕ) (buf : List ℕ) {r : Filled} {exit : List ℕ} → done ≤ length buf → fillOf reads done buf ≡ over r exit
     → Kept done buf r exit
 kept-from [] done buf upto e = on-none done buf upto (ltb done (length buf)) refl e
 kept-from (x ∷ rest) done buf upto e = on-read x rest done buf upto (λ more next. kept-from rest more next) (ltb done (length buf)) refl e
@@ -124,3 +125,25 @@ within {entry} {exit} {r} {k} f e =
     let all = kept f in
     let told : k ≡ all .count = subst (λ s. Tells s (all .count) (length entry)) e (all .tells) in
     omega (arith, told, all .most, all .size)
+
+-- ---- how far it goes
+
+-- the same reads, the same answer and the same bytes
+pub one-filling : {entry exit exit′ : List ℕ} {r r′ : Filled} (f : Filling entry r exit) (g : Filling entry r′ exit′) → f .reads ≡ g .reads
+    → (r ≡ r′) × (exit ≡ exit′)
+one-filling {entry} {exit} {exit′} {r} {r′} f g e =
+    let same : over r exit ≡ over r′ exit′ = sym (f .made) ∙ ap (λ x. fillOf x 0 entry) e ∙ g .made in
+    (cc, cc)
+
+-- and no further: the reads are not tied to calls that were made. A function that reads nothing and tells 0 bytes would meet the contract
+-- too, by a read at the end of the input that nobody made
+at-end : Read
+at-end = record { got = pos 0; piece = replicate 4096 0; size = length-replicate {A = ℕ} 4096 0 }
+
+by-room : (entry : List ℕ) (b : Bool) → ltb 0 (length entry) ≡ b → Filling entry (Bytes 0) entry
+unfolding afterRead at-end
+by-room entry true t = record { reads = at-end ∷ []; made = on-end at-end [] 0 entry (ltb-true 0 (length entry) t) refl }
+by-room entry false t = record { reads = []; made = full [] 0 entry (ltb-false 0 (length entry) t) }
+
+pub read-nothing : (entry : List ℕ) → Filling entry (Bytes 0) entry
+read-nothing entry = by-room entry (ltb 0 (length entry)) refl
