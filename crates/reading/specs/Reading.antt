@@ -22,7 +22,7 @@ afterRead done room (negsuc k) = Broken
 afterRead done room (pos zero) = End
 afterRead done room (pos (suc k)) = More (done + min (suc k) room)
 
--- what a read answered, and what then stood in the piece of 4096 bytes that was lent to it
+-- what a read answered, and what then stood in the piece of 4096 bytes that reads bring their bytes in
 pub record Read : Type 0 where
   pub got : ℤ
   pub piece : List ℕ

@@ -42,7 +42,7 @@ fn least(a: usize, b: usize) -> usize
     if a < b { a } else { b }
 }
 
-// A piece for a read to bring its bytes in.
+// A piece for reads to bring their bytes in.
 fn fresh_piece() -> [u8; 4096]
     ensures { λ r. ⌜ length r ≡ 4096 ⌝ }
 {
@@ -60,8 +60,8 @@ fn put(buf: &mut [u8], done: usize, piece: &[u8], n: usize)
     }
 }
 
-// Each read is lent a piece of its own, and the bytes that its answer counts are copied: what it does to the rest of
-// the piece does not reach `buf`.
+// A read is lent a piece and not `buf`, and the bytes that its answer counts are copied: what else it does to the piece
+// does not reach `buf`.
 pub fn fill(fd: i32, buf: &mut [u8]) -> Filled
     ensures { λ r. ⌜ Filling (now (buf .entry)) r (now (buf .exit)) ⌝ }
 {
