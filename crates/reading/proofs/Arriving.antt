@@ -9,9 +9,7 @@ use lib.Dec.{T}
 use lib.IntN.{ℤ, pos, negsuc, natAbs}
 use lib.Signed.{ltZ, nonNeg}
 use Rattle.reading.specs.declared.Reading.the-variants.{More, End, Broken}
-use Rattle.reading.specs.declared.Filled.{Filled}
-use Rattle.reading.specs.declared.Filled.the-variants.{Bytes}
-use Rattle.reading.specs.Reading.{afterRead, Within}
+use Rattle.reading.specs.Reading.{afterRead}
 
 pub not-below : (z : ℤ) → ltZ z (pos 0) ≡ false → T (nonNeg z)
 not-below (pos n) e = tt
@@ -51,7 +49,3 @@ unfolding afterRead
 came done room (negsuc n) more h e = absurd (let x : _≡_ {A = ℕ} 0 1 = cc in omega arith)
 came done room (pos zero) more h e = absurd (let x : _≡_ {A = ℕ} 0 1 = cc in omega arith)
 came done room (pos (suc n)) more h e = let x : more ≡ done + min (suc n) room = cc in record { some = omega arith; most = omega arith }
-
--- so many bytes are within
-pub within : {r : Filled} {k n : ℕ} → Within r n → r ≡ Bytes k → k ≤ n
-within {n = n} h e = subst (λ x. Within x n) e h

@@ -1,2 +1,4 @@
--- Laws that other crates may cite. `Arriving`: what a read comes to, and that what was read is within the room for it.
+-- Laws that other crates may cite. `Arriving`: what one read comes to. `Filling`: what all of them make of the room, what
+-- they leave of it as it was, and that as many bytes as are told lie within it.
 pub mod Arriving
+pub mod Filling

@@ -3,7 +3,7 @@ use native.Mathlib.Omega.{arith}
 use mathlib.Core.Path.{sym}
 use borrow.Author.Needs.{needs}
 use lib.Seq.{length-take-le}
-use Rattle.reading.proofs.Arriving.{within}
+use Rattle.reading.proofs.Filling.{within}
 use Rattle.looproots_runs.proofs.answer.Statement.{statement}
 use Rattle.looproots_runs.proofs.answer.Tie as tie
 
