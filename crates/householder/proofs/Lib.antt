@@ -1,5 +1,6 @@
--- Laws that other crates may cite. `Ways`: the axis by its three ways, and that it is as long as its column.
+-- Laws that other crates may cite. `Ways`: the axis by its three ways, and that it is as long as its column; `One`: two answers that a contract allows are one.
 pub mod Ways
 pub mod Frames
+pub mod One
 mod Identity
 mod Empty
