@@ -1,6 +1,6 @@
 -- What lent memory held is not felt: a column is cleared alike whatever the workspace held, and Q is assembled alike whatever stood in its place. Assumes
 -- nothing.
-use Prim.Native.Nat.{ℕ, zero, suc, _+_, _*_, _-_, _≤_, _<_}
+use Prim.Native.Nat.{ℕ, _+_, _*_, _-_, _≤_, _<_}
 use mathlib.Core.Path.{_≡_, refl, sym, ap, _∙_}
 use mathlib.Core.Bool.{Bool, true, false, cond, _&&_}
 use mathlib.Core.List.{List}
@@ -9,7 +9,7 @@ use borrow.Author.Tests.{le-leb}
 use lib.Dec.{leb}
 use lib.ListN.{length}
 use lib.Ieee.{Float, nan}
-use Rattle.loops.specs.Down.{down}
+use Rattle.loops.specs.Down.{down, down-same}
 use Rattle.loops.specs.Place.{place, Inside}
 use Rattle.loops.specs.Rounded.{_!_}
 use Rattle.scalar.specs.Sign.{signumOf}
@@ -35,14 +35,6 @@ clear-lent n k t w w' e = rw e (go (blockFits n (length t) (k + 2) (k + 2) && le
     go : (b : Bool) → SameCleared (cond b (clearedHere n k t w) (cleared nan t w)) (cond b (clearedHere n k t w') (cleared nan t w'))
     go true = record { matrix = refl; norm = refl }
     go false = record { matrix = refl; norm = refl }
-
--- TEMP two loops whose turns are the same
-down-same : {A : Type 0} (f g : ℕ → A → A) (n : ℕ) (s : A) → ((i : ℕ) (x : A) → i < n → f i x ≡ g i x)
-    → down f n s ≡ down g n s
-unfolding down
-down-same f g zero s same = refl
-down-same f g (suc n) s same =
-    ap (down f n) (same n s (omega arith)) ∙ down-same f g n (g n s) (λ i x l. same i x (omega arith))
 
 -- ---- Q assembled, in the place of one matrix or another
 

@@ -36,3 +36,11 @@ down-length f n t keep = down-hold (λ s. length s ≡ length t) f n t (λ i s h
 pub down-frame : {A : Type 0} (f : ℕ → List A → List A) (n : ℕ) (t : List A) (p : ℕ) (d : A)
     → ((i : ℕ) (s : List A) → i < n → getD (f i s) p d ≡ getD s p d) → getD (down f n t) p d ≡ getD t p d
 down-frame f n t p d keep = down-hold (λ s. getD s p d ≡ getD t p d) f n t (λ i s h e. keep i s h ∙ e) refl
+
+-- two loops whose turns are the same
+pub down-same : {A : Type 0} (f g : ℕ → A → A) (n : ℕ) (s : A) → ((i : ℕ) (x : A) → i < n → f i x ≡ g i x)
+    → down f n s ≡ down g n s
+unfolding down
+down-same f g zero s same = refl
+down-same f g (suc n) s same =
+    ap (down f n) (same n s (omega arith)) ∙ down-same f g n (g n s) (λ i x l. same i x (omega arith))

@@ -7,8 +7,9 @@ use lib.ListN.{length, set, length-set}
 use lib.Seq.{getD-set-same, getD-set-other, ext-getD}
 use lib.Ieee.{Float, nan}
 use Rattle.loops.specs.Rounded.{_!_}
+use Rattle.loops.specs.Table.{table-length}
 use Rattle.loops.specs.Times.{times-none, times-more, times-done, times-length, times-frame, times-at}
-use Rattle.matrix.specs.Vectors.{eachTo, filled}
+use Rattle.matrix.specs.Vectors.{eachTo, filled, zeros}
 
 -- ---- a loop that rewrites them one by one: before the first turn, one more, all done
 
@@ -79,3 +80,7 @@ pub filled-same : (x : Float) (s t : List Float) → length s ≡ length t → f
 filled-same x s t e =
     ext-getD nan (filled x s) (filled x t) (filled-length x s ∙ e ∙ sym (filled-length x t))
     (λ i l. let h : i < length s = omega (arith, filled-length x s) in filled-at x s i h ∙ sym (filled-at x t i (omega arith)))
+
+pub zeros-length : (k : ℕ) → length (zeros k) ≡ k
+unfolding zeros
+zeros-length k = table-length k _

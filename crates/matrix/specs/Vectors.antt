@@ -8,6 +8,7 @@ use lib.ListN.{length, set}
 use lib.Ieee.{Float, nan, le}
 use Rattle.loops.specs.Constants.{zero}
 use Rattle.loops.specs.Rounded.{_⊕_, _⊗_, _⊘_, _!_}
+use Rattle.loops.specs.Table.{table}
 use Rattle.loops.specs.Times.{times, range}
 use Rattle.scalar.specs.Root.{rootOf}
 use Rattle.scalar.specs.Sign.{modulusOf}
@@ -48,6 +49,10 @@ each f t = eachTo (length t) (λ _ e. f e) t
 -- each number is x
 unfoldable pub filled : Float → List Float → List Float
 filled x t = each (λ _. x) t
+
+-- k numbers, all +0: memory to begin with
+unfoldable pub zeros : ℕ → List Float
+zeros k = table k (λ _. zero)
 
 -- c copied to the front of t; nothing is done where it is the longer one
 unfoldable pub copied : List Float → List Float → List Float

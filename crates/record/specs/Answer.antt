@@ -5,12 +5,13 @@ use mathlib.Core.Bool.{true}
 use mathlib.Core.List.{List, _++_}
 use lib.ListN.{drop}
 use lib.Ieee.{Float, binary64, ofBits}
+use Rattle.matrix.specs.Vectors.{zeros}
 use Rattle.pass.specs.Setting.{setting}
 use Rattle.pass.specs.Pair.{Pair, pair}
 use Rattle.refusal.specs.declared.refusal.Checked.{Checked}
 use Rattle.refusal.specs.declared.refusal.Checked.the-variants.{Passed, Refused}
 use Rattle.refusal.specs.Refusal.{toldOf}
-use Rattle.words.specs.Floats.{floatsOf, zeros}
+use Rattle.words.specs.Floats.{floatsOf}
 use Rattle.decomposition.specs.declared.Decomposed.{Decomposed}
 use Rattle.decomposition.specs.declared.Decomposed.the-variants.{Accepted, Declined}
 use Rattle.decomposition.specs.Decomposition.{Outcome, placedOf}

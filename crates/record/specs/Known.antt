@@ -6,10 +6,11 @@ use Prim.Native.String.{String}
 use mathlib.Core.List.{List, [], _∷_, _++_, map}
 use lib.ListN.{take}
 use Rattle.loops.specs.Table.{table}
+use Rattle.matrix.specs.Vectors.{zeros}
 use Rattle.decomposition.specs.Known.{openedDecomposition}
 use Rattle.eigenvalues.specs.Known.{openedReaders}
 use Rattle.words.specs.Words.{le64, byteOf}
-use Rattle.words.specs.Floats.{floatsOf, zeros}
+use Rattle.words.specs.Floats.{floatsOf}
 use Rattle.header.specs.Record.{le16, le32, headerOf, headerChecks, recordChecks, byChecks, examined}
 use Rattle.record.specs.Text.{ascii, decimalIn, decimal, hexadecimal, refusedLine, passesLine, entryLine}
 use Rattle.record.specs.Text.{newline, eigenvalueLine, joined, matrixLines, eigenvalueLines}

@@ -5,8 +5,8 @@ use mathlib.Core.Path.{_≡_}
 use mathlib.Core.List.{List}
 use lib.ListN.{length}
 use lib.Ieee.{Float}
+use Rattle.matrix.specs.Vectors.{zeros}
 use Rattle.pass.specs.Pair.{Pair}
-use Rattle.words.specs.Floats.{zeros}
 use Rattle.record.specs.Page.{Page}
 
 -- a matrix, and room for its lines

@@ -12,13 +12,13 @@ use lib.Ieee.{Float}
 use Rattle.loops.specs.Counted.{Counted, open-count}
 use Rattle.loops.specs.Tests.{cond-both}
 use Rattle.loops.specs.Threshold.{Threshold, never, from, threshold}
-use Rattle.matrix.specs.Vectors.{largest}
+use Rattle.matrix.specs.Vectors.{largest, zeros}
 use Rattle.window.specs.declared.Window.{Window}
 use Rattle.pass.specs.declared.setting.Setting.{Setting}
 use Rattle.pass.specs.Pair.{Pair}
 use Rattle.schur.specs.declared.run.Ran.{Ran}
 use Rattle.schur.specs.declared.run.Ran.the-variants.{Ended, BudgetReached, Unfit}
-use Rattle.schur.specs.Run.{Running, passesAt, closed, delimiting, after, turnTwo, turnMore, turnOf, runFrom, zeros, opened, openedOf, Left}
+use Rattle.schur.specs.Run.{Running, passesAt, closed, delimiting, after, turnTwo, turnMore, turnOf, runFrom, opened, openedOf, Left}
 use Rattle.schur.specs.Run.{answered, ranOf, largestBudget, countOf}
 use Rattle.schur.proofs.RunAnswers.{answered-reached, answered-ended, RunFits}
 use Rattle.schur.proofs.Independent.{opened-alike, runFrom-alike}

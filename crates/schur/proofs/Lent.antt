@@ -10,9 +10,8 @@ use borrow.Author.Tests.{eq-eqb, ne-eqb}
 use lib.ListN.{length}
 use lib.Ieee.{Float}
 use Rattle.loops.specs.Constants.{one}
-use Rattle.loops.specs.Table.{table-length}
-use Rattle.matrix.specs.Vectors.{largest}
-use Rattle.matrix.proofs.Each.{filled-same}
+use Rattle.matrix.specs.Vectors.{largest, zeros}
+use Rattle.matrix.proofs.Each.{filled-same, zeros-length}
 use Rattle.hessenberg.specs.Reduced.{reduced}
 use Rattle.hessenberg.specs.Unpacked.{unpackedQ}
 use Rattle.hessenberg.proofs.Frames.{reduced-length}
@@ -20,7 +19,7 @@ use Rattle.hessenberg.proofs.Lent.{q-lent}
 use Rattle.pass.specs.declared.setting.Setting.{Setting}
 use Rattle.pass.specs.Pair.{pair, onQ}
 use Rattle.pass.specs.Block.{columnsIn, orderTwo}
-use Rattle.schur.specs.Run.{zeros, state, delimiting, runFrom, scaledDown, reducedPair, opened, Left, answered, ranOf, freshRan}
+use Rattle.schur.specs.Run.{state, delimiting, runFrom, scaledDown, reducedPair, opened, Left, answered, ranOf, freshRan}
 use Rattle.schur.proofs.Independent.{Same, reduction-alike, h-alike, ran-same}
 use Rattle.schur.proofs.Lengths.{scaledDown-length}
 use Rattle.schur.proofs.RunAnswers.{RunFits}
@@ -101,12 +100,8 @@ module _ (asked : Setting) (t q q' w w' : List Float) (lent : Lent asked t q q' 
 
 -- ---- so each run is that in memory which holds +0 throughout
 
-pub zeros-long : (k : ℕ) → length (zeros k) ≡ k
-unfolding zeros
-zeros-long k = table-length k _
-
 pub fits-fresh : {n tn wn : ℕ} → RunFits n tn wn → RunFits n tn (length (zeros (2 * n)))
-fits-fresh {n} fits = record { some = fits .some; order = fits .order; size = fits .size; room = zeros-long (2 * n) }
+fits-fresh {n} fits = record { some = fits .some; order = fits .order; size = fits .size; room = zeros-length (2 * n) }
 
 module _ (asked : Setting) (budget : ℕ) (t q w : List Float) (fits : RunFits (asked .order) (length t) (length w)) where
   -- the answer and T, whatever is lent for Q
@@ -118,4 +113,4 @@ module _ (asked : Setting) (budget : ℕ) (t q w : List Float) (fits : RunFits (
   pub fresh-unfelt : (asked .wanted ≡ true → length q ≡ asked .order * asked .order) → Unfelt asked (ranOf asked budget (pair t q) w) (freshRan asked budget t)
   fresh-unfelt room =
       lent-not-felt asked t q (zeros (asked .order * asked .order)) w (zeros (2 * asked .order))
-      (record { fits = fits; fits' = fits-fresh fits; forQ = room; forQ' = λ _. zeros-long (asked .order * asked .order) }) budget
+      (record { fits = fits; fits' = fits-fresh fits; forQ = room; forQ' = λ _. zeros-length (asked .order * asked .order) }) budget

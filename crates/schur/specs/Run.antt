@@ -7,11 +7,10 @@ use lib.Dec.{eqb, leb}
 use lib.ListN.{length}
 use lib.Ieee.{Float}
 use Rattle.loops.specs.Constants.{zero, one}
-use Rattle.loops.specs.Table.{table}
 use Rattle.loops.specs.Until.{until}
 use Rattle.scalar.specs.Class.{isZero}
 use Rattle.matrix.specs.Fits.{blockFits}
-use Rattle.matrix.specs.Vectors.{largest, scaled, unscaled, filled}
+use Rattle.matrix.specs.Vectors.{largest, scaled, unscaled, filled, zeros}
 use Rattle.hessenberg.specs.Reduced.{reduced}
 use Rattle.hessenberg.specs.Unpacked.{unpackedH, unpackedQ}
 use Rattle.window.specs.declared.Window.{Window}
@@ -74,10 +73,6 @@ turnOf asked r =
 -- at most `budget` turns
 unfoldable pub runFrom : Setting → (budget : ℕ) → Running → Running
 runFrom asked budget r = until closed (turnOf asked) budget r
-
--- TEMP
-unfoldable pub zeros : ℕ → List Float
-zeros k = table k (λ _. zero)
 
 -- ---- order 3 and up
 

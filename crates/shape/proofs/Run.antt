@@ -16,8 +16,8 @@ use Rattle.loops.specs.Tests.{cond-both}
 use Rattle.loops.specs.Rounded.{_⊗_, _!_}
 use Rattle.loops.specs.Until.{until-walk}
 use Rattle.scalar.specs.Class.{isZero, isFinite}
-use Rattle.matrix.specs.Vectors.{largest, scaled}
-use Rattle.matrix.proofs.Each.{eachTo-at}
+use Rattle.matrix.specs.Vectors.{largest, scaled, zeros}
+use Rattle.matrix.proofs.Each.{eachTo-at, zeros-length}
 use Rattle.hessenberg.specs.Reduced.{workFits, reduced}
 use Rattle.hessenberg.specs.Unpacked.{unpackedH}
 use Rattle.hessenberg.proofs.Frames.{reduced-length, reduced-work, unpackedH-length, unpackedH-zero}
@@ -25,9 +25,8 @@ use Rattle.window.specs.Window.{window}
 use Rattle.pass.specs.declared.setting.Setting.{Setting}
 use Rattle.pass.specs.Pair.{Pair, pair}
 use Rattle.schur.specs.declared.run.Ran.the-variants.{Ended}
-use Rattle.schur.specs.Run.{zeros, Running, closed, delimiting, turnOf, runFrom, scaledDown, reducedPair, opened, Left, answered, ranOf, freshRan, openedOf}
+use Rattle.schur.specs.Run.{Running, closed, delimiting, turnOf, runFrom, scaledDown, reducedPair, opened, Left, answered, ranOf, freshRan, openedOf}
 use Rattle.schur.proofs.Counting.{opened-none, run-counted}
-use Rattle.schur.proofs.Lent.{zeros-long}
 use Rattle.schur.proofs.Lengths.{scaledDown-length}
 use Rattle.refusal.specs.Shape.{QuasiTriangular}
 use Rattle.shape.specs.Vanished.{turnVanished, runVanished, vanished}
@@ -133,5 +132,5 @@ ended-shape {c} asked budget t some small size finite none = go (decLt (asked .o
         rw (ne-eqb n 1 (λ q. omega arith), ne-eqb n 2 (λ q. omega arith))
         (answered-shape n budget (largest t) (runFrom asked budget first) finite
         (run-sound asked budget first small (rw (le-leb 3 n (omega arith)) at none)
-        (opened-sound asked memory (zeros (2 * n)) small some size (zeros-long (2 * n))))
+        (opened-sound asked memory (zeros (2 * n)) small some size (zeros-length (2 * n))))
         (run-counted asked budget first (opened-none asked memory (zeros (2 * n)))))

@@ -10,15 +10,11 @@ use lib.ListN.{length, replicate, length-replicate, getD-replicate, take}
 use lib.Seq.{length-take-le, getD-take}
 use lib.Ieee.{Float, nan}
 use Rattle.loops.specs.Constants.{zero}
-use Rattle.loops.specs.Table.{table-length, table-of}
-use Rattle.matrix.specs.Vectors.{filled}
-use Rattle.matrix.proofs.Each.{filled-length, filled-at}
-use Rattle.words.specs.Floats.{floatsOf, bytesOf, zeros}
+use Rattle.loops.specs.Table.{table-of}
+use Rattle.matrix.specs.Vectors.{filled, zeros}
+use Rattle.matrix.proofs.Each.{filled-length, filled-at, zeros-length}
+use Rattle.words.specs.Floats.{floatsOf, bytesOf}
 use Rattle.words.proofs.FloatLoops.{floatsOf-length}
-
-pub zeros-length : (k : ℕ) → length (zeros k) ≡ k
-unfolding zeros
-zeros-length k = table-length k _
 
 -- whatever stood there
 pub filled-zeros : (t : List Float) (k : ℕ) → length t ≡ k → filled zero t ≡ zeros k
