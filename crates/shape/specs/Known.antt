@@ -16,7 +16,8 @@ use Rattle.shape.specs.Vanished.{runVanished, vanished}
 
 -- every definition that a case computes with
 unfoldable pub openedVanished : Unit {0}
-unfolding openedSchur openedOf zeros table firstFrom isTooSmall tooSmall passTo axisColumn passVanished turnVanished runVanished vanished
+unfolding openedSchur openedOf zeros table firstFrom isTooSmall tooSmall passTo axisColumn passVanished turnVanished
+    runVanished vanished
 openedVanished = tt
 
 case : (n eps budget : ℕ) → (t : List ℕ) → Case
