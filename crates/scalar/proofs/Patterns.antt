@@ -59,3 +59,6 @@ nan-bits = refl
 
 pub back : (x : Float) (w : ℕ) → T (fits binary64 x) → toBits binary64 x ≡ w → x ≡ ofBits binary64 w
 back x w h e = sym (ofBits-toBits binary64 x h) ∙ ap (ofBits binary64) e
+
+pub both-ways : (x : Float) {w : ℕ} → T (fits binary64 x) → w ≡ toBits binary64 x → (w ≡ toBits binary64 x) × (ofBits binary64 w ≡ x)
+both-ways x {w} h e = (e, sym (back x w h (sym e)))

@@ -20,9 +20,10 @@ pub fn of_bits(w: u64) -> f64
     f64::from_bits(w)
 }
 
-// The pattern of a float.
+// The pattern of a float. It is read back as that float, and NaN as NaN.
 pub fn bits_of(x: f64) -> u64
     ensures { λ r. ⌜ r ≡ toBits binary64 x ⌝ }
+    ensures { λ r. ⌜ ofBits binary64 r ≡ x ⌝ }
 {
     if x != x {
         return 0x7ff8_0000_0000_0000;

@@ -1,7 +1,7 @@
-// Numbers of up to 128 digits, in two words. The lower word runs round at 2^64, and the carry is read
-// from a comparison.
+// Numbers of up to 128 digits, in two words: a sum, a square, a difference. The lower word runs round at
+// 2^64, and the carry is read from a comparison.
 ghost use mathlib.Core.Path.{_≡_};
-ghost use Prim.Native.Nat.{_+_, _*_, _^_, _<_};
+ghost use Prim.Native.Nat.{_+_, _*_, _%_, _^_, _<_};
 ghost use Rattle.scalar.specs.Inner.{valueOf, InTwo};
 
 // The number hi * 2^64 + lo.
@@ -29,7 +29,7 @@ pub(crate) fn plus(a: Two, b: u64) -> Two
 // is within a word.
 pub(crate) fn square(r: u64) -> Two
     requires { ⌜ r < 2 ^ 53 ⌝ }
-    ensures { λ x. ⌜ InTwo (r * r) (2 ^ 62) (x .hi) (x .lo) ⌝ }
+    ensures { λ x. ⌜ InTwo (r * r) (2 ^ 44) (x .hi) (x .lo) ⌝ }
 {
     let a = r / 0x800_0000;
     let c = r % 0x800_0000;
@@ -43,19 +43,18 @@ pub(crate) fn square(r: u64) -> Two
     plus(u, s % 0x400 * 0x40_0000_0000_0000)
 }
 
-// a - b, if that is a number of one word and not its largest; else the largest. Where the lower word of
-// a is below that of b, the difference runs round and borrows from the upper words.
-pub(crate) fn gap(a: Two, b: Two) -> u64
-    requires { ⌜ b .hi < 2 ^ 63 ⌝ }
-    ensures { λ r. ⌜ (r < 0xffff_ffff_ffff_ffff → valueOf (a .hi) (a .lo) ≡ valueOf (b .hi) (b .lo) + r) ⌝ }
+// a - b, modulo 2^128: each word by a difference that runs round at 2^64. Where the lower word of a is below
+// that of b, the lower difference ran round, and the upper one lends it 1.
+pub(crate) fn minus(a: Two, b: Two) -> Two
+    ensures { λ r. ⌜ (valueOf (r .hi) (r .lo) + valueOf (b .hi) (b .lo)) % 2 ^ 128 ≡ valueOf (a .hi) (a .lo) ⌝ }
 {
     let lo = std::num::wrapping_sub_u64(a.lo, b.lo);
-    let mut hi = b.hi;
+    let hi = std::num::wrapping_sub_u64(a.hi, b.hi);
     if a.lo < b.lo {
-        hi = hi + 1;
+        return Two {
+            hi: std::num::wrapping_sub_u64(hi, 1),
+            lo: lo,
+        };
     }
-    if a.hi == hi {
-        return lo;
-    }
-    0xffff_ffff_ffff_ffff
+    Two { hi: hi, lo: lo }
 }

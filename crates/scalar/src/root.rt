@@ -8,7 +8,7 @@ use crate::bits::not_a_number;
 use crate::bits::of_bits;
 use crate::guess::guess;
 use crate::halves::Two;
-use crate::halves::gap;
+use crate::halves::minus;
 use crate::halves::plus;
 use crate::halves::square;
 ghost use mathlib.Core.Path.{_≡_};
@@ -83,7 +83,8 @@ fn scaled(w: u64) -> Place
     }
 }
 
-// Whether r is seen to be the whole number nearest to the root of X: where 0 < X + r - r * r <= 2 * r.
+// Whether r is seen to be the whole number nearest to the root of X: where 0 < X + r - r * r <= 2 * r. Below 0
+// that runs round, and its upper word is not 0.
 fn nearest(top: u64, r: u64) -> bool
     requires { ⌜ r < 2 ^ 53 ⌝ }
     ensures { λ b. ⌜ (b ≡ true → Near (top * 2 ^ 42) r) ⌝ }
@@ -92,10 +93,12 @@ fn nearest(top: u64, r: u64) -> bool
         hi: top / 0x40_0000,
         lo: top % 0x40_0000 * 0x400_0000_0000,
     };
-    let left = gap(plus(x, r), square(r));
-    if 0 < left {
-        if left <= r * 2 {
-            return true;
+    let left = minus(plus(x, r), square(r));
+    if left.hi == 0 {
+        if 0 < left.lo {
+            if left.lo <= r * 2 {
+                return true;
+            }
         }
     }
     false

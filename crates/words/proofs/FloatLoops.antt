@@ -1,10 +1,13 @@
 -- What the loops over all floats have made: a list's floats, and its bytes. Assumes nothing.
 use Prim.Native.Nat.{ℕ, _+_, _*_, _/_, _%_, _≤_, _<_}
-use mathlib.Core.Path.{_≡_, refl, sym, ap, _∙_}
+use mathlib.Core.Path.{_≡_, refl, sym, ap, subst, _∙_}
 use mathlib.Core.List.{List}
 use native.Mathlib.Omega.{arith}
+use borrow.Author.Count.{below-none, below-more}
 use lib.ListN.{length, getD}
-use lib.Ieee.{Float, nan, binary64, ofBits, toBits}
+use lib.Dec.{T}
+use lib.Ieee.{Float, nan, binary64, fits, ofBits, toBits}
+use lib.Ieee.Bits.{ofBits-fits}
 use Rattle.loops.specs.Rounded.{_!_}
 use Rattle.loops.specs.Table.{table-length, table-at, table-of}
 use Rattle.loops.specs.Times.{times, times-length, times-at, times-none, times-more, times-done}
@@ -67,21 +70,24 @@ writing-all a b e = table-of (8 * length a) _ (times (writing a) (length a) b) 0
         ∙ ap (λ p. getD (writing a (i / 8) before) p 0) split
         ∙ put64-at before (8 * (i / 8)) _ (i % 8) (omega (arith, writing-length a (i / 8) b)) (omega arith)
 
--- the same as the state of a loop: k floats of a are written, and what that has made of b₀ is b
+-- the same as the state of a loop: k floats of a are written, each of them a value of the format, and what that has made of b₀ is b
 pub record Written (a : List Float) (b₀ : List ℕ) (k : ℕ) (b : List ℕ) : Type 0 where
   pub upto : k ≤ length a
   pub size : length b ≡ length b₀
+  pub fit : (j : ℕ) → j < k → T (fits binary64 (a ! j))
   pub done : b ≡ times (writing a) k b₀
 
 pub written-none : (a : List Float) (b : List ℕ) → Written a b 0 b
-written-none a b = record { upto = omega arith; size = refl; done = sym (times-none (writing a) b) }
+written-none a b = record { upto = omega arith; size = refl; fit = below-none _; done = sym (times-none (writing a) b) }
 
 pub written-more : {a : List Float} {b₀ : List ℕ} {k : ℕ} {b b' : List ℕ} {w : ℕ} → Written a b₀ k b → k < length a → w ≡ toBits binary64 (a ! k)
+    → ofBits binary64 w ≡ a ! k
     → b' ≡ put64 b (8 * k) w
     → Written a b₀ (k + 1) b'
-written-more {a} {b₀} {k} {b} {w = w} d h e p = record {
+written-more {a} {b₀} {k} {b} {w = w} d h e r p = record {
   upto = omega arith;
   size = ap length p ∙ put64-length b (8 * k) w ∙ d .size;
+  fit = below-more _ _ (d .fit) (subst (λ x. T (fits binary64 x)) r (ofBits-fits binary64 w));
   done = p ∙ ap (put64 b (8 * k)) e ∙ ap (writing a k) (d .done) ∙ sym (times-more (writing a) k b₀);
 }
 

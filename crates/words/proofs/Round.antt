@@ -1,11 +1,13 @@
 -- What was written is read back. Assumes nothing.
-use Prim.Native.Nat.{ℕ, _+_, _*_, _/_, _^_, _<_}
+use Prim.Native.Nat.{ℕ, _+_, _*_, _/_, _^_, _≤_, _<_}
 use mathlib.Core.Path.{_≡_, ap, _∙_}
+use mathlib.Core.Bool.{cond}
 use mathlib.Core.List.{List}
 use native.Mathlib.Nat.{add-zero, div-one, div-div-eq-div-mul, div-add-mod', div-eq-of-lt, pow-suc}
 use native.Mathlib.Numerals.{add-one}
 use native.Mathlib.Omega.{arith}
-use lib.Dec.{T}
+use borrow.Author.Tests.{eq-eqb, ne-eqb}
+use lib.Dec.{T, eqb}
 use lib.ListN.{length}
 use lib.Seq.{ext-getD}
 use lib.Ieee.{Float, nan, binary64, fits, ofBits, toBits}
@@ -13,7 +15,7 @@ use lib.Ieee.Bits.{ofBits-toBits, toBits-lt}
 use Rattle.loops.specs.Rounded.{_!_}
 use Rattle.words.specs.Words.{le64, byteOf}
 use Rattle.words.specs.Floats.{floatsOf, bytesOf}
-use Rattle.words.proofs.FloatLoops.{floatsOf-length, floatsOf-at, bytesOf-length, bytesOf-at}
+use Rattle.words.proofs.FloatLoops.{floatsOf-length, floatsOf-at, bytesOf-length, bytesOf-at, Written, written-done}
 
 -- eight digits in base 256 make a number: digit k is taken off what is left at k, and the rest goes on
 made : (digit left : ℕ → ℕ) → ((k : ℕ) → digit k + left (k + 1) * 256 ≡ left k)
@@ -59,3 +61,14 @@ floats-back a fit =
         floatsOf-at (bytesOf a) k (omega (arith, bytesOf-length a))
         ∙ ap (ofBits binary64) (word-back a k h (toBits-lt binary64 (a ! k) (fit k h)))
         ∙ ofBits-toBits binary64 (a ! k) (fit k h)
+
+-- what `encode` promises, where b has another length and where all is written
+pub left-alone : {a : List Float} {b : List ℕ} → (length b ≡ 8 * length a → ⊥)
+    → (b ≡ cond (eqb (length b) (8 * length a)) (bytesOf a) b) × (length b ≡ 8 * length a → floatsOf b ≡ a)
+left-alone {a} {b} other = (rw (ne-eqb (length b) (8 * length a) other), λ e. absurd (other e))
+
+pub all-written : {a : List Float} {b₀ : List ℕ} {k : ℕ} {b : List ℕ} → Written a b₀ k b → length a ≤ k → length b₀ ≡ 8 * length a
+    → (b ≡ cond (eqb (length b₀) (8 * length a)) (bytesOf a) b₀) × (length b₀ ≡ 8 * length a → floatsOf b ≡ a)
+all-written {a} d h same =
+    let wrote = written-done d h same in
+    (rw (eq-eqb _ _ same) wrote, λ e. ap floatsOf wrote ∙ floats-back a (λ j l. d .fit j (omega arith)))

@@ -22,10 +22,13 @@ pub fn decode(b: &[u8], a: &mut [f64])
     }
 }
 
-// The bytes of a's floats, put into b. Where b has another length nothing is done.
+// The bytes of a's floats, put into b, which are read back as these floats. Where b has another length nothing
+// is done.
 pub fn encode(a: &[f64], b: &mut [u8])
     ensures { λ _. ⌜ now (b .exit) ≡ cond (eqb (length (now (b .entry))) (8 * length (now (a .entry))))
         (bytesOf (now (a .entry))) (now (b .entry)) ⌝ }
+    ensures { λ _. ⌜ (length (now (b .entry)) ≡ 8 * length (now (a .entry))
+        → floatsOf (now (b .exit)) ≡ now (a .entry)) ⌝ }
 {
     if b.len() / 8 != a.len() {
         return;

@@ -1,8 +1,9 @@
--- Numbers in two words: a square from halves, X from its top, and a difference with a borrow and without. Assumes nothing.
+-- Numbers in two words: a square from halves, X from its top, and a sum word by word. Assumes nothing.
 use Prim.Native.Nat.{ℕ, _+_, _-_, _*_, _/_, _%_, _^_, _≤_, _<_}
-use mathlib.Core.Path.{_≡_}
-use native.Mathlib.Nat.{mul-le-mul}
+use mathlib.Core.Path.{_≡_, sym, ap, _∙_}
+use native.Mathlib.Nat.{mul-le-mul, le-refl, lt-of-lt-of-le, mod-eq-of-lt, add-mul-mod-self-right}
 use native.Mathlib.Omega.{arith}
+use lib.Pow.{pow-mono}
 use Rattle.scalar.specs.Inner.{valueOf}
 
 -- (a * 2 ^ 27 + c) ^ 2, in parts that stay within a word
@@ -28,11 +29,20 @@ halves r h =
     let q : c ≤ 2 ^ 27 = omega arith in
     record { high = mul-le-mul p p; mixed = mul-le-mul p q; low = mul-le-mul q q }
 
--- a difference whose lower word runs round, and one whose lower word does not
-pub gap-carry : (ah al bh bl lo : ℕ) → al < 2 ^ 64 → lo < 2 ^ 64 → (lo + bl) % 2 ^ 64 ≡ al → al < bl → bl < 2 ^ 64 → ah ≡ bh + 1
-    → valueOf ah al ≡ valueOf bh bl + lo
-gap-carry ah al bh bl lo a l w h b e = omega arith
+-- A sum of two words each, modulo two words: c is carried from the lower sum, and d out of the upper one.
+pub carried : (W ah al bh bl hi lo c d : ℕ) → ah < W → al < W → lo + bl ≡ al + c * W → hi + bh + c ≡ ah + d * W
+    → ((hi * W + lo) + (bh * W + bl)) % (W * W) ≡ ah * W + al
+carried W ah al bh bl hi lo c d a b e f =
+    let x = ah * W + al in
+    let n : ah + 1 ≤ W = omega arith in
+    let m : (ah + 1) * W ≤ W * W = mul-le-mul n (le-refl W) in
+    let l : x < W * W = omega arith in
+    let s : (hi * W + lo) + (bh * W + bl) ≡ x + d * (W * W) = omega (arith, ap (λ (v : ℕ). v * W) f) in
+    ap (λ (v : ℕ). v % (W * W)) s ∙ add-mul-mod-self-right x d (W * W) ∙ mod-eq-of-lt l
 
-pub gap-plain : (ah al bh bl lo : ℕ) → al < 2 ^ 64 → lo < 2 ^ 64 → (lo + bl) % 2 ^ 64 ≡ al → bl ≤ al → bl < 2 ^ 64 → ah ≡ bh
-    → valueOf ah al ≡ valueOf bh bl + lo
-gap-plain ah al bh bl lo a l w h b e = omega arith
+-- a difference of one word is exact: one below 0 would have run round to more
+pub one-word : {x hi lo yh yl : ℕ} → hi ≡ 0 → lo < 2 ^ 64 → yh < 2 ^ 44 → yl < 2 ^ 64 → (valueOf hi lo + valueOf yh yl) % 2 ^ 128 ≡ x
+    → x ≡ valueOf yh yl + lo
+one-word {hi = hi} {lo = lo} {yh = yh} {yl = yl} z l h k e =
+    let s : valueOf hi lo + valueOf yh yl < 2 ^ 109 = omega arith in
+    sym e ∙ mod-eq-of-lt (lt-of-lt-of-le s (pow-mono {i = 109} {j = 128} (omega arith))) ∙ omega arith

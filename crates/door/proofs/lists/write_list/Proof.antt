@@ -11,7 +11,7 @@ returns-2 c =
     let wrote : tie.After-encode = search in
     let told : tie.After-enum-told = search in
     let start : tie.Start = search in
-    rw (told .enum-told .given .1) (encoded _ (start .args .b .now) (wrote .encode .ensures) (start .pre))
+    rw (told .enum-told .given .1) (encoded _ (start .args .b .now) (wrote .encode .ensures .0) (start .pre))
 
 pub write-list-spec : {M : Type 1} → statement M
 unfolding ifPassed

@@ -39,7 +39,7 @@ returns c =
     (after-asked-by .asked-by .ensures) floats (pre .forQ) (pre .workspace)
     (run-fits (fit start) (ap length floats ∙ floats-length (x .m .now) _ (fit start .matrix)) (ap length (pre .workspace) ∙ zeros-length _))
     (after-do-decompose .do-decompose .ensures .0) (after-decide .decide .ensures) (c .decomposed-number .ensures)
-    (encoded _ (x .t .now) (after-encode .encode .ensures) (omega (arith, fit start .t)))
+    (encoded _ (x .t .now) (after-encode .encode .ensures .0) (omega (arith, fit start .t)))
     (after-write-q .write-q .ensures)
 
 pub on-floats-spec : {M : Type 1} → statement M

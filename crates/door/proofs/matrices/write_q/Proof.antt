@@ -7,5 +7,5 @@ use Rattle.door.proofs.matrices.write_q.Tie as tie
 pub write-q-spec : {M : Type 1} → statement M
 write-q-spec = tie.close (tie.spec (λ c κs. omega arith) (λ c. omega arith)
     (λ c. let start : tie.Start = search in rw (c .before .before .before .before .if1 .taken)
-    (encoded _ (start .args .q .now) (c .before .before .encode .ensures) (start .pre (c .before .before .before .before .if1 .taken))))
+    (encoded _ (start .args .q .now) (c .before .before .encode .ensures .0) (start .pre (c .before .before .before .before .if1 .taken))))
     (λ c. rw (c .if1 .left)))

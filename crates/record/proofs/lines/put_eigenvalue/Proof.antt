@@ -24,8 +24,8 @@ returns c =
     let after-put : tie.After-put = search in
     let start : tie.Start = search in
     line-put (after-put .put .ensures) (after-put-number .put-number .ensures)
-    (put-as (ap pattern (after-bits-of .bits-of .ensures)) (after-put-pattern .put-pattern .ensures))
-    (put-as (ap pattern (after-bits-of2 .bits-of2 .ensures)) (after-put-pattern2 .put-pattern2 .ensures)) (c .before .before .put-byte .ensures)
+    (put-as (ap pattern (after-bits-of .bits-of .ensures .0)) (after-put-pattern .put-pattern .ensures))
+    (put-as (ap pattern (after-bits-of2 .bits-of2 .ensures .0)) (after-put-pattern2 .put-pattern2 .ensures)) (c .before .before .put-byte .ensures)
     (omega (arith, digits start))
 
 pub put-eigenvalue-spec : {M : Type 1} → statement M

@@ -23,7 +23,7 @@ returns c =
     let after-put-byte : tie.After-put-byte = search in
     let start : tie.Start = search in
     line-put (after-put-byte .put-byte .ensures) (after-put-number .put-number .ensures) (after-put-number2 .put-number2 .ensures)
-    (put-as (ap pattern (after-bits-of .bits-of .ensures)) (after-put-pattern .put-pattern .ensures)) (c .before .before .put-byte2 .ensures)
+    (put-as (ap pattern (after-bits-of .bits-of .ensures .0)) (after-put-pattern .put-pattern .ensures)) (c .before .before .put-byte2 .ensures)
     (omega (arith, digits start))
 
 pub put-entry-spec : {M : Type 1} → statement M

@@ -1,34 +1,33 @@
--- `scalar::root::nearest` meets its contract: where the difference X + r - r * r is one word, it is exact, and its bounds are the two
--- inequalities. Assumes nothing.
-use Prim.Native.Nat.{_+_, _*_, _^_, _<_}
+-- `scalar::root::nearest` meets its contract: where the difference X + r - r * r has nothing in its upper word, it is exact, and its bounds
+-- are the two inequalities. Assumes nothing.
+use Prim.Native.Nat.{_+_, _*_, _^_}
 use mathlib.Core.Path.{_≡_}
 use mathlib.Core.Bool.{false≢true}
 use native.Mathlib.Omega.{arith}
-use Rattle.scalar.proofs.halves.Laws.{scaled-words}
+use Rattle.scalar.proofs.halves.Laws.{scaled-words, one-word}
 use Rattle.scalar.proofs.root.Steps.{take-it}
 use Rattle.scalar.proofs.root.nearest.Statement.{statement}
 use Rattle.scalar.proofs.root.nearest.Tie as tie
 
-gap-requires : tie.Need-gap-requires
-gap-requires c κs = omega (arith, c .square .ensures .high)
-
--- X + r is r * r and what `gap` answers
-rest : (c : tie.After-gap) → (c .gap .result < 0xffff_ffff_ffff_ffff)
+-- X + r is r * r and what the lower word holds
+rest : (c : tie.After-minus) → c .minus .result .hi ≡ 0
     → c .before .before .before .args .top * 2 ^ 42 + c .before .before .before .args .r
-    ≡ c .before .before .before .args .r * c .before .before .before .args .r + c .gap .result
-rest c h =
+    ≡ c .before .before .before .args .r * c .before .before .before .args .r + c .minus .result .lo
+rest c z =
+    let s = c .before .square .ensures in
     omega (
       arith,
-      c .gap .ensures h,
+      one-word z (omega arith) (s .high) (omega arith) (c .minus .ensures),
       c .before .before .plus .ensures .value,
-      c .before .square .ensures .value,
+      s .value,
       scaled-words (c .before .before .before .args .top),
     )
 
 returns : tie.Need-returns
 returns c =
-    let start : tie.Start = search in
-    λ e. take-it _ _ _ (rest (search) (omega (arith, c .if2 .taken, start .pre))) (c .before .if1 .taken) (c .if2 .taken)
+    let then1 : tie.Then1 = search in
+    let then2 : tie.Then2 = search in
+    λ e. take-it _ _ _ (rest (search) (then1 .if1 .taken)) (then2 .if2 .taken) (c .if3 .taken)
 
 returns-2 : tie.Need-returns-2
 returns-2 c = λ e. absurd (false≢true e)
@@ -36,11 +35,13 @@ returns-2 c = λ e. absurd (false≢true e)
 returns-3 : tie.Need-returns-3
 returns-3 c = λ e. absurd (false≢true e)
 
+returns-4 : tie.Need-returns-4
+returns-4 c = λ e. absurd (false≢true e)
+
 pub nearest-spec : {M : Type 1} → statement M
 nearest-spec = tie.close (tie.spec
-    (λ c. omega arith) (λ c κs. omega arith) (λ c κs. omega arith)
-    gap-requires
-    (λ c. omega arith)
+    (λ c. omega arith) (λ c κs. omega arith) (λ c κs. omega arith) (λ c κs. omega arith) (λ c. omega arith)
     returns
     returns-2
-    returns-3)
+    returns-3
+    returns-4)

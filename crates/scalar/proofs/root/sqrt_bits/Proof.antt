@@ -18,7 +18,7 @@ bits-of-requires c κs = omega arith
 -- what the three calls make is `rootBits` of the pattern
 made : (c : tie.After-bits-of) → c .bits-of .result ≡ rootBits (c .before .before .before .args .w)
 unfolding rootBits
-made c = rw (c .bits-of .ensures, c .before .sqrt .ensures, c .before .before .of-bits .ensures)
+made c = rw (c .bits-of .ensures .0, c .before .sqrt .ensures, c .before .before .of-bits .ensures)
 
 returns : tie.Need-returns
 returns c = (made c, λ t. made c ∙ nan-bits-root _ t)
