@@ -61,6 +61,11 @@ pub some-budget : (b : ℕ) → budgetFits b ≡ true → 1 ≤ b
 unfolding budgetFits
 some-budget b h = leb-true 1 b (both (leb 1 b) (leb b 1000000) h .0)
 
+-- and 1,000,000 at most
+pub most-budget : (b : ℕ) → budgetFits b ≡ true → b ≤ 1000000
+unfolding budgetFits
+most-budget b h = leb-true b 1000000 (both (leb 1 b) (leb b 1000000) h .1)
+
 -- ---- the lengths of the matrix, of T and of the workspace
 
 pub record Sizes (n mn tn wn : ℕ) : Type 0 where
