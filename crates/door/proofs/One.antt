@@ -19,7 +19,7 @@ use Rattle.door.proofs.manulsek_plain_eigenvalues.Reads as reads-plain
 pub one-decompose : (κs : Lfts 3) (a : Dens κs decompose.ps) (r r' : ℕ) (s s' : AtExit (endedOf 3 decompose.ps decompose.r) κs)
     → reads-decompose.Post κs a r s → reads-decompose.Post κs a r' s'
     → (r ≡ r') × (s .1 .1 .1 .1 .1 .0 .now ≡ s' .1 .1 .1 .1 .1 .0 .now) × (s .1 .1 .1 .1 .1 .1 .0 .now ≡ s' .1 .1 .1 .1 .1 .1 .0 .now)
-one-decompose κs a r r' s s' h k = let e = one-answer _ _ _ h k in (ap (λ x. x .answer) e, ap (λ x. x .t) e, ap (λ x. x .q) e)
+one-decompose κs a r r' s s' h k = let e = one-answer _ _ _ (h .0) (k .0) in (ap (λ x. x .answer) e, ap (λ x. x .t) e, ap (λ x. x .q) e)
 
 -- those of the eigenvalues
 pub one-real : (κs : Lfts 2) (a : Dens κs real.ps) (r r' : ℕ) (s s' : AtExit (endedOf 2 real.ps real.r) κs) → reads-real.Post κs a r s

@@ -1,6 +1,7 @@
 -- What the contracts of private functions name: the rooms of a call, and an entry that gives lists, on the floats in
 -- between.
 use Prim.Native.Nat.{ℕ, _*_, _≤_}
+use mathlib.Core.Bool.{true}
 use mathlib.Core.Path.{_≡_}
 use mathlib.Core.List.{List}
 use lib.ListN.{length}
@@ -10,12 +11,12 @@ use Rattle.refusal.specs.declared.refusal.Checked.the-variants.{Passed}
 use Rattle.refusal.specs.Refusal.{ifPassed}
 use Rattle.eigenvalues.specs.Readers.{realFiniteOf, complexFiniteOf}
 use Rattle.plain.specs.Plain.{plainFiniteOf}
-use Rattle.words.specs.Floats.{bytesOf, zeros}
+use Rattle.words.specs.Floats.{floatsOf, bytesOf, zeros}
 use Rattle.door.specs.declared.matrices.Request.{Request}
 use Rattle.door.specs.declared.lists.ListEntry.{ListEntry}
 use Rattle.door.specs.declared.lists.ListEntry.the-variants.{Real, Complex, Plain}
 use Rattle.door.specs.declared.lists.ListCall.{ListCall}
-use Rattle.door.specs.Matrices.{matrixChecks}
+use Rattle.door.specs.Matrices.{matrices, matrixChecks, ranFloats, ranBytes}
 use Rattle.door.specs.Lists.{listChecks}
 
 -- ---- the decomposition
@@ -32,6 +33,13 @@ pub record MatrixRooms (r : Request) (m t q : List ℕ) (a c w : List Float) : T
   pub matrix : length a ≡ r .order * r .order
   pub forQ : c ≡ zeros (r .order * r .order)
   pub workspace : w ≡ zeros (2 * r .order)
+
+-- What is answered and written after the run. The bytes hold T's floats, and Q's where it is wanted: a law would say
+-- so of the numbers that f64 has, and not of all that the logic has, so each function says it of what it wrote.
+pub record MatricesDone (r : Request) (m q : List ℕ) (answer : ℕ) (t' q' : List ℕ) : Type 0 where
+  pub bytes : matrices answer t' q' ≡ ranBytes r m q
+  pub held-t : floatsOf t' ≡ ranFloats r m .pair .t
+  pub held-q : r .wanted ≡ true → floatsOf q' ≡ ranFloats r m .pair .q
 
 -- ---- the entries that give lists
 

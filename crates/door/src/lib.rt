@@ -7,10 +7,11 @@ mod matrices;
 
 ghost use mathlib.Core.Path.{_≡_};
 ghost use mathlib.Core.Bool.{not};
+ghost use Prim.Native.Nat.{_<_};
 ghost use lib.Dec.{T, eqb};
 ghost use lib.Ieee.{binary64, nanBits};
 ghost use Rattle.scalar.specs.Root.{rootBits};
-ghost use Rattle.door.specs.Matrices.{request, matrices, decomposeBytes};
+ghost use Rattle.door.specs.Matrices.{request, matrices, decomposeBytes, AcceptedBytes};
 ghost use Rattle.door.specs.Lists.{listed, realBytes, complexListed, complexBytes, plainBytes};
 use answer::refusal_number;
 use lists::ListCall;
@@ -28,7 +29,8 @@ pub extern "C" fn manulsek_sqrt(w: u64) -> u64
 }
 
 // The matrix m of order n is decomposed: T into t, and Q into q unless `wanted` is 0; then q is not looked at.
-// The counted passes are answered, or a refusal.
+// The counted passes are answered, or a refusal. A number below 2^32 is an acceptance: T and Q are then promised to
+// be finite, and T to have its shape.
 #[no_mangle]
 pub extern "C" fn manulsek_decompose(
     n: usize,
@@ -42,6 +44,8 @@ pub extern "C" fn manulsek_decompose(
     ensures { λ r. ⌜ matrices r (now (t .exit)) (now (q .exit))
         ≡ decomposeBytes (request n (not (eqb wanted 0)) tolerance budget) (now (m .entry)) (now (t .entry))
         (now (q .entry)) ⌝ }
+    ensures { λ r. ⌜ (r < 0x1_0000_0000 → AcceptedBytes (request n (not (eqb wanted 0)) tolerance budget)
+        (now (m .entry)) r (now (t .exit)) (now (q .exit))) ⌝ }
 {
     let request = Request {
         order: n,

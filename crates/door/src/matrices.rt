@@ -11,8 +11,8 @@ ghost use Rattle.refusal.specs.Refusal.{refuse, _next_};
 ghost use Rattle.refusal.specs.Checks.{entryChecks};
 ghost use Rattle.decomposition.specs.Checks.{toleranceFits, budgetFits};
 ghost use Rattle.words.specs.Floats.{floatsOf, bytesOf};
-ghost use Rattle.door.specs.Matrices.{askedBy, matrices, matrixChecks, ranBytes};
-ghost use Rattle.door.specs.Inner.{MatrixUpTo, MatrixRooms};
+ghost use Rattle.door.specs.Matrices.{askedBy, matrixChecks};
+ghost use Rattle.door.specs.Inner.{MatrixUpTo, MatrixRooms, MatricesDone};
 use crate::checks::check_entries;
 use answer::decomposed_number;
 use pass::Setting;
@@ -84,6 +84,7 @@ pub(crate) fn check_arguments(m: &[u8], r: Request, tn: usize, qn: usize) -> Che
 fn write_q(wanted: bool, c: &[f64], q: &mut [u8])
     requires { ⌜ (wanted ≡ true → length (now q) ≡ 8 * length (now c)) ⌝ }
     ensures { λ _. ⌜ now (q .exit) ≡ cond wanted (bytesOf (now (c .entry))) (now (q .entry)) ⌝ }
+    ensures { λ _. ⌜ (wanted ≡ true → floatsOf (now (q .exit)) ≡ now (c .entry)) ⌝ }
 {
     if wanted {
         words::encode(c, q);
@@ -101,7 +102,7 @@ fn on_floats(
     work: &mut [f64],
 ) -> u64
     requires { ⌜ MatrixRooms r (now m) (now t) (now q) (now a) (now c) (now work) ⌝ }
-    ensures { λ x. ⌜ matrices x (now (t .exit)) (now (q .exit)) ≡ ranBytes r (now (m .entry)) (now (q .entry)) ⌝ }
+    ensures { λ x. ⌜ MatricesDone r (now (m .entry)) (now (q .entry)) x (now (t .exit)) (now (q .exit)) ⌝ }
 {
     let asked = asked_by(r);
     words::decode(m, a);
@@ -115,7 +116,7 @@ fn on_floats(
 // Small orders do not pay for clearing a large room.
 fn small(r: Request, m: &[u8], t: &mut [u8], q: &mut [u8]) -> u64
     requires { ⌜ MatrixUpTo 8 r (now m) (now t) (now q) ⌝ }
-    ensures { λ x. ⌜ matrices x (now (t .exit)) (now (q .exit)) ≡ ranBytes r (now (m .entry)) (now (q .entry)) ⌝ }
+    ensures { λ x. ⌜ MatricesDone r (now (m .entry)) (now (q .entry)) x (now (t .exit)) (now (q .exit)) ⌝ }
 {
     let n = r.order;
     let k = n * n;
@@ -129,7 +130,7 @@ fn small(r: Request, m: &[u8], t: &mut [u8], q: &mut [u8]) -> u64
 // apart, which took longer (docs/SPEED.md).
 fn modest(r: Request, m: &[u8], t: &mut [u8], q: &mut [u8]) -> u64
     requires { ⌜ MatrixUpTo 16 r (now m) (now t) (now q) ⌝ }
-    ensures { λ x. ⌜ matrices x (now (t .exit)) (now (q .exit)) ≡ ranBytes r (now (m .entry)) (now (q .entry)) ⌝ }
+    ensures { λ x. ⌜ MatricesDone r (now (m .entry)) (now (q .entry)) x (now (t .exit)) (now (q .exit)) ⌝ }
 {
     let n = r.order;
     let k = n * n;
@@ -141,7 +142,7 @@ fn modest(r: Request, m: &[u8], t: &mut [u8], q: &mut [u8]) -> u64
 
 fn middle(r: Request, m: &[u8], t: &mut [u8], q: &mut [u8]) -> u64
     requires { ⌜ MatrixUpTo 32 r (now m) (now t) (now q) ⌝ }
-    ensures { λ x. ⌜ matrices x (now (t .exit)) (now (q .exit)) ≡ ranBytes r (now (m .entry)) (now (q .entry)) ⌝ }
+    ensures { λ x. ⌜ MatricesDone r (now (m .entry)) (now (q .entry)) x (now (t .exit)) (now (q .exit)) ⌝ }
 {
     let n = r.order;
     let k = n * n;
@@ -153,7 +154,7 @@ fn middle(r: Request, m: &[u8], t: &mut [u8], q: &mut [u8]) -> u64
 
 fn large(r: Request, m: &[u8], t: &mut [u8], q: &mut [u8]) -> u64
     requires { ⌜ MatrixUpTo 64 r (now m) (now t) (now q) ⌝ }
-    ensures { λ x. ⌜ matrices x (now (t .exit)) (now (q .exit)) ≡ ranBytes r (now (m .entry)) (now (q .entry)) ⌝ }
+    ensures { λ x. ⌜ MatricesDone r (now (m .entry)) (now (q .entry)) x (now (t .exit)) (now (q .exit)) ⌝ }
 {
     let n = r.order;
     let k = n * n;
@@ -166,7 +167,7 @@ fn large(r: Request, m: &[u8], t: &mut [u8], q: &mut [u8]) -> u64
 // The arguments have passed. For orders above 8.
 fn larger(r: Request, m: &[u8], t: &mut [u8], q: &mut [u8]) -> u64
     requires { ⌜ matrixChecks r (now m) (length (now t)) (length (now q)) ≡ Passed ⌝ }
-    ensures { λ x. ⌜ matrices x (now (t .exit)) (now (q .exit)) ≡ ranBytes r (now (m .entry)) (now (q .entry)) ⌝ }
+    ensures { λ x. ⌜ MatricesDone r (now (m .entry)) (now (q .entry)) x (now (t .exit)) (now (q .exit)) ⌝ }
 {
     if r.order <= 16 {
         return modest(r, m, t, q);
@@ -180,7 +181,7 @@ fn larger(r: Request, m: &[u8], t: &mut [u8], q: &mut [u8]) -> u64
 // The arguments have passed.
 pub(crate) fn run(r: Request, m: &[u8], t: &mut [u8], q: &mut [u8]) -> u64
     requires { ⌜ matrixChecks r (now m) (length (now t)) (length (now q)) ≡ Passed ⌝ }
-    ensures { λ x. ⌜ matrices x (now (t .exit)) (now (q .exit)) ≡ ranBytes r (now (m .entry)) (now (q .entry)) ⌝ }
+    ensures { λ x. ⌜ MatricesDone r (now (m .entry)) (now (q .entry)) x (now (t .exit)) (now (q .exit)) ⌝ }
 {
     if r.order <= 8 {
         return small(r, m, t, q);

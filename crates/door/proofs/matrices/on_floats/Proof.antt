@@ -40,7 +40,7 @@ returns c =
     (run-fits (fit start) (ap length floats ∙ floats-length (x .m .now) _ (fit start .matrix)) (ap length (pre .workspace) ∙ zeros-length _))
     (after-do-decompose .do-decompose .ensures .0) (after-decide .decide .ensures) (c .decomposed-number .ensures)
     (encoded _ (x .t .now) (after-encode .encode .ensures .0) (omega (arith, fit start .t)))
-    (after-write-q .write-q .ensures)
+    (after-write-q .write-q .ensures .0) (after-encode .encode .ensures .1 (omega (arith, fit start .t))) (after-write-q .write-q .ensures .1)
 
 pub on-floats-spec : {M : Type 1} → statement M
 on-floats-spec = tie.close (tie.spec (λ c κs. omega arith) (λ c κs. omega arith) (λ c κs. omega arith) (λ c κs. omega arith)

@@ -1,13 +1,14 @@
 -- `door::matrices::run` meets its contract. Assumes nothing.
 use native.Mathlib.Omega.{arith}
 use native.Mathlib.Nat.{mul-le-mul}
-use mathlib.Core.Path.{_≡_, sym, ap, _∙_}
+use mathlib.Core.Path.{_≡_, sym, ap, subst, _∙_}
 use mathlib.Core.Bool.{Bool}
 use mathlib.Core.List.{List}
 use Prim.Native.Nat.{ℕ}
 use Rattle.refusal.specs.declared.refusal.Checked.the-variants.{Passed}
 use Rattle.door.specs.declared.matrices.Request.{Request}
-use Rattle.door.specs.Matrices.{request, matrixChecks, ranBytes}
+use Rattle.door.specs.Matrices.{request, matrixChecks}
+use Rattle.door.specs.Inner.{MatricesDone}
 use Rattle.door.proofs.matrices.run.Statement.{statement}
 use Rattle.door.proofs.matrices.run.Tie as tie
 
@@ -24,8 +25,9 @@ known r b = request (r .order) b (r .tolerance) (r .budget)
 checked : (r : Request) (m : List ℕ) (tn qn : ℕ) {b : Bool} → r .wanted ≡ b → matrixChecks r m tn qn ≡ Passed → matrixChecks (known r b) m tn qn ≡ Passed
 checked r m tn qn h passed = sym (ap (λ b. matrixChecks (known r b) m tn qn) h) ∙ passed
 
-ran : (r : Request) (m q : List ℕ) {b : Bool} → r .wanted ≡ b → ranBytes (known r b) m q ≡ ranBytes r m q
-ran r m q h = sym (ap (λ b. ranBytes (known r b) m q) h)
+ran : (r : Request) {m q t' q' : List ℕ} {answer : ℕ} {b : Bool} → r .wanted ≡ b → MatricesDone (known r b) m q answer t' q'
+    → MatricesDone r m q answer t' q'
+ran r {m} {q} {t'} {q'} {answer} h done = subst (λ b. MatricesDone (known r b) m q answer t' q') (sym h) done
 
 larger-requires : tie.Need-larger-requires
 larger-requires c κs =
@@ -44,16 +46,14 @@ returns-2 c =
     let start : tie.Start = search in
     let came : tie.After-larger = search in
     let here : tie.Then2 = search in
-    let x = start .args in
-    came .larger .ensures ∙ ran (x .r) (x .m .now) (x .q .now) (here .if2 .taken)
+    ran (start .args .r) (here .if2 .taken) (came .larger .ensures)
 
 returns-3 : tie.Need-returns-3
 returns-3 c =
     let start : tie.Start = search in
     let came : tie.After-larger2 = search in
     let here : tie.Else2 = search in
-    let x = start .args in
-    came .larger2 .ensures ∙ ran (x .r) (x .m .now) (x .q .now) (here .if2 .left)
+    ran (start .args .r) (here .if2 .left) (came .larger2 .ensures)
 
 pub run-spec : {M : Type 1} → statement M
 run-spec = tie.close (tie.spec

@@ -6,6 +6,8 @@ use Rattle.door.proofs.matrices.write_q.Tie as tie
 
 pub write-q-spec : {M : Type 1} → statement M
 write-q-spec = tie.close (tie.spec (λ c κs. omega arith) (λ c. omega arith)
-    (λ c. let start : tie.Start = search in rw (c .before .before .before .before .if1 .taken)
-    (encoded _ (start .args .q .now) (c .before .before .encode .ensures .0) (start .pre (c .before .before .before .before .if1 .taken))))
-    (λ c. rw (c .if1 .left)))
+    (λ c. let start : tie.Start = search in
+    let taken = c .before .before .before .before .if1 .taken in
+    let wrote = c .before .before .encode .ensures in
+    (rw taken (encoded _ (start .args .q .now) (wrote .0) (start .pre taken)), λ _. wrote .1 (start .pre taken)))
+    (λ c. let unwanted = c .if1 .left in (rw unwanted, λ e. cc)))
