@@ -6,6 +6,8 @@ use mathlib.Core.List.{List}
 use native.Mathlib.Omega.{arith}
 use lib.ListN.{length}
 use lib.Ieee.{Float}
+use Rattle.matrix.proofs.Each.{zeros-length}
+use Rattle.matrix.specs.Vectors.{zeros}
 use Rattle.refusal.specs.declared.refusal.Refusal.the-variants.{WrongLength}
 use Rattle.refusal.specs.declared.refusal.Checked.{Checked}
 use Rattle.refusal.specs.declared.refusal.Checked.the-variants.{Passed}
@@ -20,8 +22,8 @@ use Rattle.decomposition.specs.Decomposition.{Outcome, Settlement, settlement, 
 use Rattle.decomposition.proofs.CheckedArguments.{Sizes, Right, all-right, all-lent, passed-judged}
 use Rattle.decomposition.proofs.Count.{accepted-count}
 use Rattle.decomposition.proofs.Shape.{accepted-finite, accepted-q-finite, accepted-shape}
-use Rattle.words.specs.Floats.{floatsOf, zeros}
-use Rattle.words.proofs.Between.{zeros-length, floats-length}
+use Rattle.words.specs.Floats.{floatsOf}
+use Rattle.words.proofs.Between.{floats-length}
 use Rattle.answer.specs.Answer.{decomposedNumber}
 use Rattle.answer.proofs.Numbers.{accepted-number, count-small}
 use Rattle.door.specs.declared.matrices.Request.{Request}

@@ -4,6 +4,8 @@ use mathlib.Core.Path.{_≡_, refl, ap, _∙_}
 use mathlib.Core.List.{List}
 use lib.ListN.{length}
 use lib.Ieee.{Float}
+use Rattle.matrix.proofs.Each.{zeros-length}
+use Rattle.matrix.specs.Vectors.{zeros}
 use Rattle.refusal.specs.declared.refusal.Checked.{Checked}
 use Rattle.refusal.specs.declared.refusal.Checked.the-variants.{Passed, Refused}
 use Rattle.refusal.specs.Refusal.{_next_, ifPassed}
@@ -14,8 +16,8 @@ use Rattle.eigenvalues.specs.Readers.{realLengths, complexLengths, realRead, co
 use Rattle.eigenvalues.specs.Readers.{leftBy}
 use Rattle.eigenvalues.proofs.KnownFinite.{real-finite, complex-finite}
 use Rattle.plain.specs.Plain.{plainLengths, plainBegun, plainFiniteOf}
-use Rattle.words.specs.Floats.{floatsOf, bytesOf, zeros}
-use Rattle.words.proofs.Between.{zeros-length, floats-length}
+use Rattle.words.specs.Floats.{floatsOf, bytesOf}
+use Rattle.words.proofs.Between.{floats-length}
 use Rattle.door.specs.declared.lists.ListEntry.{ListEntry}
 use Rattle.door.specs.declared.lists.ListEntry.the-variants.{Real, Complex, Plain}
 use Rattle.answer.specs.Answer.{checkedNumber}

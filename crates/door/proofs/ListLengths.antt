@@ -6,6 +6,7 @@ use mathlib.Core.List.{List}
 use lib.ListN.{length, replicate, take}
 use Rattle.loops.specs.Constants.{zero}
 use Rattle.loops.specs.Place.{square-64}
+use Rattle.matrix.specs.Vectors.{zeros}
 use Rattle.refusal.specs.declared.refusal.Refusal.{Refusal}
 use Rattle.refusal.specs.declared.refusal.Checked.the-variants.{Passed, Refused}
 use Rattle.refusal.specs.Refusal.{ifPassed}
@@ -13,7 +14,7 @@ use Rattle.refusal.specs.Checks.{entryChecks}
 use Rattle.refusal.proofs.ChecksInTurn.{next-passed, next-refused}
 use Rattle.refusal.proofs.PassedChecks.{length-passed, entries-passes, given-passed}
 use Rattle.eigenvalues.specs.Readers.{readable, realChecks, complexChecks}
-use Rattle.words.specs.Floats.{floatsOf, zeros}
+use Rattle.words.specs.Floats.{floatsOf}
 use Rattle.words.proofs.Between.{fresh-zeros, fresh-length}
 use Rattle.door.specs.declared.lists.ListEntry.{ListEntry}
 use Rattle.door.specs.declared.lists.ListEntry.the-variants.{Real, Complex, Plain}

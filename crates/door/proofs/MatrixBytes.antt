@@ -6,6 +6,7 @@ use mathlib.Core.List.{List}
 use native.Mathlib.Omega.{arith}
 use lib.ListN.{length}
 use lib.Ieee.{Float}
+use Rattle.matrix.specs.Vectors.{zeros}
 use Rattle.pass.specs.declared.setting.Setting.{Setting}
 use Rattle.pass.specs.Pair.{Pair, pair}
 use Rattle.schur.specs.declared.run.Ran.{Ran}
@@ -13,7 +14,7 @@ use Rattle.schur.specs.Run.{Left, left, runFits, ranOf, runOf}
 use Rattle.refusal.specs.declared.refusal.Refusal.{Refusal}
 use Rattle.refusal.specs.declared.refusal.Checked.the-variants.{Passed, Refused}
 use Rattle.decomposition.specs.Decomposition.{Settlement, decided}
-use Rattle.words.specs.Floats.{floatsOf, bytesOf, zeros}
+use Rattle.words.specs.Floats.{floatsOf, bytesOf}
 use Rattle.door.specs.declared.matrices.Request.{Request}
 use Rattle.answer.specs.Answer.{decomposedNumber, refusalNumber}
 use Rattle.answer.proofs.Numbers.{refusal-large}

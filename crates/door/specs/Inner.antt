@@ -6,12 +6,13 @@ use mathlib.Core.Path.{_≡_}
 use mathlib.Core.List.{List}
 use lib.ListN.{length}
 use lib.Ieee.{Float}
+use Rattle.matrix.specs.Vectors.{zeros}
 use Rattle.refusal.specs.declared.refusal.Checked.{Checked}
 use Rattle.refusal.specs.declared.refusal.Checked.the-variants.{Passed}
 use Rattle.refusal.specs.Refusal.{ifPassed}
 use Rattle.eigenvalues.specs.Readers.{realFiniteOf, complexFiniteOf}
 use Rattle.plain.specs.Plain.{plainFiniteOf}
-use Rattle.words.specs.Floats.{floatsOf, bytesOf, zeros}
+use Rattle.words.specs.Floats.{floatsOf, bytesOf}
 use Rattle.door.specs.declared.matrices.Request.{Request}
 use Rattle.door.specs.declared.lists.ListEntry.{ListEntry}
 use Rattle.door.specs.declared.lists.ListEntry.the-variants.{Real, Complex, Plain}

@@ -5,6 +5,7 @@ use Prim.Native.Nat.{ℕ, _*_}
 use mathlib.Core.List.{List}
 use lib.ListN.{length}
 use Rattle.loops.specs.Table.{table}
+use Rattle.matrix.specs.Vectors.{zeros}
 use Rattle.refusal.specs.declared.refusal.Refusal.the-variants.{WrongLength}
 use Rattle.refusal.specs.declared.refusal.Checked.{Checked}
 use Rattle.refusal.specs.declared.refusal.Checked.the-variants.{Passed, Refused}
@@ -13,7 +14,7 @@ use Rattle.refusal.specs.Checks.{lengthCheck, givenChecks}
 use Rattle.eigenvalues.specs.Blocks.{eigenvalueAt}
 use Rattle.eigenvalues.specs.Readers.{realChecks, diagonal, complexChecks, Read}
 use Rattle.plain.specs.Plain.{plainRead}
-use Rattle.words.specs.Floats.{floatsOf, bytesOf, zeros}
+use Rattle.words.specs.Floats.{floatsOf, bytesOf}
 use Rattle.door.specs.declared.lists.ListEntry.{ListEntry}
 use Rattle.door.specs.declared.lists.ListEntry.the-variants.{Real, Complex, Plain}
 use Rattle.answer.specs.Answer.{refusalNumber, checkedNumber}

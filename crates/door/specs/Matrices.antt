@@ -7,6 +7,7 @@ use mathlib.Core.Path.{_≡_}
 use mathlib.Core.List.{List}
 use lib.ListN.{length}
 use lib.Ieee.{binary64, ofBits}
+use Rattle.matrix.specs.Vectors.{zeros}
 use Rattle.pass.specs.declared.setting.Setting.{Setting}
 use Rattle.pass.specs.Setting.{setting}
 use Rattle.pass.specs.Pair.{pair}
@@ -17,7 +18,7 @@ use Rattle.refusal.specs.Checks.{matrixLengths}
 use Rattle.refusal.specs.Shape.{AllFinite, QuasiTriangular}
 use Rattle.decomposition.specs.Checks.{argumentChecks}
 use Rattle.decomposition.specs.Decomposition.{Settlement, decided, Outcome, decompositionOf}
-use Rattle.words.specs.Floats.{floatsOf, bytesOf, zeros}
+use Rattle.words.specs.Floats.{floatsOf, bytesOf}
 use Rattle.door.specs.declared.matrices.Request.{Request}
 use Rattle.answer.specs.Answer.{refusalNumber, decomposedNumber}
 

@@ -5,9 +5,10 @@ use mathlib.Core.List.{List}
 use Prim.Native.Nat.{ℕ, _*_}
 use lib.ListN.{length}
 use lib.Ieee.{Float}
+use Rattle.matrix.proofs.Each.{zeros-length}
+use Rattle.matrix.specs.Vectors.{zeros}
 use Rattle.refusal.specs.declared.refusal.Checked.the-variants.{Passed}
-use Rattle.words.specs.Floats.{zeros}
-use Rattle.words.proofs.Between.{zeros-length, decoded}
+use Rattle.words.proofs.Between.{decoded}
 use Rattle.door.specs.declared.lists.ListEntry.{ListEntry}
 use Rattle.door.specs.declared.lists.ListEntry.the-variants.{Complex}
 use Rattle.door.specs.Lists.{secondLength}

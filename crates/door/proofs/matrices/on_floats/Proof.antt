@@ -3,9 +3,10 @@ use native.Mathlib.Omega.{arith}
 use lib.ListN.{length}
 use mathlib.Core.Path.{ap, _∙_}
 use Prim.Native.Nat.{_*_}
+use Rattle.matrix.proofs.Each.{zeros-length}
 use Rattle.pass.specs.Pair.{pair}
 use Rattle.decomposition.specs.Decomposition.{settlement}
-use Rattle.words.proofs.Between.{zeros-length, floats-length, decoded, encoded}
+use Rattle.words.proofs.Between.{floats-length, decoded, encoded}
 use Rattle.door.proofs.MatrixLengths.{MatrixFit, matrix-fit, run-fits}
 use Rattle.door.proofs.MatrixBytes.{ran}
 use Rattle.door.proofs.matrices.on_floats.Statement.{statement}
