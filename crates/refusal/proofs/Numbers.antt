@@ -60,14 +60,6 @@ told-one {r} {s} e = sym (by-number r) ∙ ap (λ (x : Told). refusalBy (x .numb
 numbered : {k : ℕ} (r : Refusal) → toldOf r .number ≡ k → r ≡ refusalBy k (placeOf (toldOf r))
 numbered r e = sym (by-number r) ∙ ap (λ k. refusalBy k (placeOf (toldOf r))) e
 
-pub told-seven : {r : Refusal} → toldOf r .number ≡ 7 → r ≡ BudgetReached
-unfolding refusalBy
-told-seven {r} e = numbered r e
-
-pub told-nine : {r : Refusal} → toldOf r .number ≡ 9 → r ≡ ShapeSpoiled (at (toldOf r .row) (toldOf r .col))
-unfolding refusalBy
-told-nine {r} e = numbered r e
-
 pub told-ten : {r : Refusal} → toldOf r .number ≡ 10 → r ≡ ComplexEigenvalues
 unfolding refusalBy
 told-ten {r} e = numbered r e
@@ -102,9 +94,3 @@ pub ten-told : {c : Checked} → checkedTold c .number ≡ 10 → c ≡ Refused 
 unfolding checkedTold
 ten-told {c = Passed} e = absurd (omega arith)
 ten-told {c = Refused r} e = ap Refused (told-ten e)
-
--- a number other than 0 is a refusal's
-pub told-refused : (c : Checked) (k : ℕ) → 1 ≤ k → checkedTold c .number ≡ k → (r : Refusal) × (c ≡ Refused r) × (toldOf r .number ≡ k)
-unfolding checkedTold
-told-refused Passed k l e = absurd (omega arith)
-told-refused (Refused r) k l e = (r, refl, e)
