@@ -104,8 +104,10 @@ module _ (lengths : Checked) (asked : Setting) (budget : ℕ) (m : List Float) (
       let r = all-right _ _ _ _ h in
       let z = lent .sizes (r .lent) in
       let z' = lent' .sizes (r .lent) in
-      let unfelt = lent-not-felt asked m (p .q) (p' .q) w w'
-      (record { fits = sizes-run (r .some) (r .order) z; fits' = sizes-run (r .some) (r .order) z'; forQ = lent .q (r .lent); forQ' = lent' .q (r .lent) }) budget in
+      let fits = sizes-run (r .some) (r .order) z in
+      let fits' = sizes-run (r .some) (r .order) z' in
+      let memories = record { fits = fits; fits' = fits'; forQ = lent .q (r .lent); forQ' = lent' .q (r .lent) } in
+      let unfelt = lent-not-felt asked m (p .q) (p' .q) w w' memories budget in
       rw (run-judged lengths asked budget m p w h, run-judged lengths asked budget m p' w' h)
       (judged-same asked (ranOf asked budget (pair m (p .q)) w) (ranOf asked budget (pair m (p' .q)) w') w w' unfelt (z .room ∙ sym (z' .room)))
 

@@ -151,13 +151,15 @@ module _ (n : ℕ) (m values w : List Float) where
   placed-is h k = ap (λ p. p .t) (by-checks h) ∙ ap (λ b. cond b m (plainRan n m w .pair .t)) k ∙ ap (λ o. o .pair .t) (ran-is h)
 
   -- so 7 and 9 are the decomposition's
-  pub plain-run : (k : ℕ) → (Elsewhere k → ⊥) → checkedTold answer .number ≡ k → (checks n m values w ≡ Passed) × (decomposedTold (decomposed .answer) .number ≡ k)
+  pub plain-run : (k : ℕ) → (Elsewhere k → ⊥) → checkedTold answer .number ≡ k
+      → (checks n m values w ≡ Passed) × (decomposedTold (decomposed .answer) .number ≡ k)
   plain-run k out e = go (checks n m values w) refl (eqb n 2) refl
     where
       number : {c : Checked} → answer ≡ c → checkedTold c .number ≡ k
       number h = ap (λ c. checkedTold c .number) (sym h) ∙ e
 
-      go : (c : Checked) → checks n m values w ≡ c → (b : Bool) → eqb n 2 ≡ b → (checks n m values w ≡ Passed) × (decomposedTold (decomposed .answer) .number ≡ k)
+      go : (c : Checked) → checks n m values w ≡ c → (b : Bool) → eqb n 2 ≡ b
+          → (checks n m values w ≡ Passed) × (decomposedTold (decomposed .answer) .number ≡ k)
       go (Refused s) h b two =
           absurd (out (told-elsewhere _ (checks-elsewhere _ n m (lengths-elsewhere n _ _ _)) (number (plain-kept h ∙ sym h))))
       go Passed h true two = absurd (out (told-elsewhere _ (two-elsewhere _) (number (by-order h two))))

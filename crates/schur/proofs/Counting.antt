@@ -114,7 +114,8 @@ tells-cond false h k = k
 
 -- ---- every run on arguments that fit, with a budget up to the largest
 
-module _ (asked : Setting) (budget : ℕ) (p : Pair) (w : List Float) (fits : RunFits (asked .order) (length (p .t)) (length w)) (most : budget ≤ largestBudget) where
+module _ (asked : Setting) (budget : ℕ) (p : Pair) (w : List Float) (fits : RunFits (asked .order) (length (p .t)) (length w))
+    (most : budget ≤ largestBudget) where
   abbrev answer : Ran
   answer = ranOf asked budget p w .answer
 
