@@ -18,7 +18,7 @@ use Rattle.pass.specs.Pair.{Pair, pair}
 use Rattle.schur.specs.declared.run.Ran.{Ran}
 use Rattle.schur.specs.declared.run.Ran.the-variants.{Ended, BudgetReached, Unfit}
 use Rattle.schur.specs.Run.{Left, left, ranOf}
-use Rattle.schur.proofs.Lent.{Unfelt, lent-not-felt}
+use Rattle.schur.proofs.Lent.{Lent, Unfelt, lent-not-felt}
 use Rattle.decomposition.specs.Checks.{allLengths, argumentChecks, resultChecks}
 use Rattle.decomposition.specs.Decomposition.{Outcome, verdict, passesOf, nanFilled, settled, decided, judged, entryOf, decompositionOf}
 use Rattle.decomposition.proofs.CheckedArguments.{Sizes, all-right, all-lent, q-lent, sizes-run, judged-work}
@@ -106,7 +106,8 @@ module _ (lengths : Checked) (asked : Setting) (budget : ℕ) (m : List Float) (
       let z' = lent' .sizes (r .lent) in
       let fits = sizes-run (r .some) (r .order) z in
       let fits' = sizes-run (r .some) (r .order) z' in
-      let memories = record { fits = fits; fits' = fits'; forQ = lent .q (r .lent); forQ' = lent' .q (r .lent) } in
+      let memories : Lent asked m (p .q) (p' .q) w w' =
+      record { fits = fits; fits' = fits'; forQ = lent .q (r .lent); forQ' = lent' .q (r .lent) } in
       let unfelt = lent-not-felt asked m (p .q) (p' .q) w w' memories budget in
       rw (run-judged lengths asked budget m p w h, run-judged lengths asked budget m p' w' h)
       (judged-same asked (ranOf asked budget (pair m (p .q)) w) (ranOf asked budget (pair m (p' .q)) w') w w' unfelt (z .room ∙ sym (z' .room)))
