@@ -45,20 +45,15 @@ pub data Own (a : Decomposed) (count : ℕ) : Type 0 where
 
 -- ---- an answer by its number
 
-declined-there : (a : Decomposed) → 1 ≤ decomposedTold a .number → (r : Refusal) × (a ≡ Declined r)
-unfolding decomposedTold
-declined-there (Accepted c) l = absurd (omega arith)
-declined-there (Declined r) l = (r, refl)
-
 pub declined-told : {r : Refusal} (a : Decomposed) → a ≡ Declined r → decomposedTold a ≡ toldOf r
 unfolding decomposedTold
 declined-told a e = rw e refl
 
--- so a number other than 0 is a refusal's
+-- a number other than 0 is a refusal's
 pub told-declined : (a : Decomposed) (k : ℕ) → 1 ≤ k → decomposedTold a .number ≡ k → (r : Refusal) × (a ≡ Declined r) × (toldOf r .number ≡ k)
-told-declined a k l e =
-    let d = declined-there a (omega arith) in
-    (d .0, d .1, sym (ap (λ x. x .number) (declined-told a (d .1))) ∙ e)
+unfolding decomposedTold
+told-declined (Accepted c) k l e = absurd (omega arith)
+told-declined (Declined r) k l e = (r, refl, e)
 
 -- ---- the answer of any entry whose checks tell the lengths
 

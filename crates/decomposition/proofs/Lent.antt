@@ -90,12 +90,12 @@ module _ (asked : Setting) (x y : Left) (w w' : List Float) (unfelt : Unfelt ask
 -- ---- any entry, on two memories that its checks take alike
 
 -- where they pass, the lengths are told
-pub record Told (lengths : Checked) (asked : Setting) (m : List Float) (p : Pair) (w : List Float) : Type 0 where
+pub record LengthsTold (lengths : Checked) (asked : Setting) (m : List Float) (p : Pair) (w : List Float) : Type 0 where
   pub sizes : lengths ≡ Passed → Sizes (asked .order) (length m) (length (p .t)) (length w)
   pub q : lengths ≡ Passed → asked .wanted ≡ true → length (p .q) ≡ asked .order * asked .order
 
-module _ (lengths : Checked) (asked : Setting) (budget : ℕ) (m : List Float) (p p' : Pair) (w w' : List Float) (lent : Told lengths asked m p w)
-    (lent' : Told lengths asked m p' w') where
+module _ (lengths : Checked) (asked : Setting) (budget : ℕ) (m : List Float) (p p' : Pair) (w w' : List Float) (lent : LengthsTold lengths asked m p w)
+    (lent' : LengthsTold lengths asked m p' w') where
   abbrev checks : Checked
   checks = argumentChecks lengths asked budget m
 
@@ -125,13 +125,13 @@ module _ (asked : Setting) (budget : ℕ) (m : List Float) (p p' : Pair) (w w' :
   abbrev lengthsOf : Pair → List Float → Checked
   lengthsOf p w = allLengths asked (length m) (length (p .t)) (length (p .q)) (length w)
 
-  told : (p : Pair) (w : List Float) → Told (lengthsOf p w) asked m p w
+  told : (p : Pair) (w : List Float) → LengthsTold (lengthsOf p w) asked m p w
   told p w = record { sizes = all-lent asked _ _ _ _; q = q-lent asked _ _ _ _ }
 
   -- the lengths of one memory are taken as those of the other, whatever either holds
   module _ (same : lengthsOf p w ≡ lengthsOf p' w') where
-    told' : Told (lengthsOf p w) asked m p' w'
-    told' = subst (λ c. Told c asked m p' w') (sym same) (told p' w')
+    told' : LengthsTold (lengthsOf p w) asked m p' w'
+    told' = subst (λ c. LengthsTold c asked m p' w') (sym same) (told p' w')
 
     -- In place, p and p' hold the matrix itself as T.
     pub decomposition-lent : argumentChecks (lengthsOf p w) asked budget m ≡ Passed
