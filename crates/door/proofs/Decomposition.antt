@@ -86,10 +86,9 @@ module _ (r : Request) (m t q : List ℕ) (passed : matrixChecks r m (length t) 
   -- the library's are told by a number below 2^32, the count
   pub door-accepted : {c : ℕ} → libraryOf r m .answer ≡ Accepted c → (decomposeBytes r m t q .answer ≡ c) × (c < 0x1_0000_0000)
   unfolding writtenMatrices decomposedNumber
-  door-accepted {c} e = (
-    ap (λ (x : Matrices). x .answer) door-decomposition ∙ ap decomposedNumber e,
-    count-small (r .budget) (right .bound) (accepted-count lengths asked a p w lent (r .budget) e .1),
-  )
+  door-accepted e =
+      let told : decomposeBytes r m t q .answer ≡ decomposedNumber (libraryOf r m .answer) = ap (λ (x : Matrices). x .answer) door-decomposition in
+      (told ∙ ap decomposedNumber e, count-small (r .budget) (right .bound) (accepted-count lengths asked a p w lent (r .budget) e .1))
 
   -- and such a number is an acceptance
   pub accepted-bytes : {answer : ℕ} {t' q' : List ℕ} → MatricesDone r m q answer t' q' → answer < 0x1_0000_0000 → AcceptedBytes r m answer t' q'
