@@ -52,7 +52,7 @@ opened-none asked p w = refl
 pub run-counted : (asked : Setting) (budget : ℕ) (r : Running) → passesAt r ≡ 0 → closed (runFrom asked budget r) ≡ false
     → passesAt (runFrom asked budget r) ≡ budget
 unfolding runFrom
-run-counted asked budget r first still = omega (arith, first, open-count (run-counts asked) budget r still)
+run-counted asked budget r first still = omega (arith, first, open-count (run-counts asked) _ r still)
 
 -- ---- the count at a budget, by that at the largest
 

@@ -80,7 +80,7 @@ pub runFrom-alike : (b d : Bool) (asked : Setting) (budget : ℕ) (x y : Running
     → Alike (runFrom (wanting b asked) budget x) (runFrom (wanting d asked) budget y)
 unfolding runFrom closed
 runFrom-alike b d asked budget x y a =
-    until-both Alike closed (turnOf (wanting b asked)) closed (turnOf (wanting d asked)) budget x y
+    until-both Alike closed (turnOf (wanting b asked)) closed (turnOf (wanting d asked)) _ x y
     (λ u v k. ap (λ s. eqb (s .window .start) (s .window .end)) (k .state))
     (turnOf-alike b d asked)
     a
