@@ -5,15 +5,18 @@ use mathlib.Core.Bool.{Bool, true, false}
 use mathlib.Core.List.{List, [], _∷_, map}
 use lib.Ieee.{ofBits, binary64}
 use Rattle.loops.specs.First.{firstFrom}
+use Rattle.loops.specs.Table.{table}
 use Rattle.matrix.specs.Known.{numbers}
 use Rattle.pass.specs.Setting.{setting}
+use Rattle.schur.specs.Run.{openedOf, zeros}
 use Rattle.schur.specs.Opened.{openedSchur, Case}
 use Rattle.shape.specs.Vanished.{isTooSmall, tooSmall, passTo, axisColumn, passVanished, turnVanished}
 use Rattle.shape.specs.Vanished.{runVanished, vanished}
 
 -- every definition that a case computes with
 unfoldable pub openedVanished : Unit {0}
-unfolding openedSchur firstFrom isTooSmall tooSmall passTo axisColumn passVanished turnVanished runVanished vanished
+unfolding openedSchur openedOf zeros table firstFrom isTooSmall tooSmall passTo axisColumn passVanished turnVanished
+    runVanished vanished
 openedVanished = tt
 
 case : (n eps budget : ℕ) → (t : List ℕ) → Case
