@@ -19,7 +19,8 @@ use Rattle.refusal.proofs.ChecksInTurn.{next-passed, refuse-passed}
 use Rattle.refusal.proofs.PassedChecks.{order-passed, order-passes, length-passed, matrices-passed, entries-passed, entries-passes}
 use Rattle.pass.specs.declared.setting.Setting.{Setting}
 use Rattle.pass.specs.Pair.{Pair, pair}
-use Rattle.schur.specs.Run.{Left, runFits, ranOf}
+use Rattle.schur.specs.Run.{Left, runFits, ranOf, largestBudget}
+use Rattle.schur.proofs.RunAnswers.{RunFits}
 use Rattle.decomposition.specs.Checks.{toleranceFits, budgetFits, allLengths, argumentChecks}
 use Rattle.decomposition.specs.Decomposition.{begun, judged, entryOf}
 
@@ -59,12 +60,12 @@ right-passed {lengths} {asked} {budget} {m} r =
 -- a budget that has passed is at least 1
 pub some-budget : (b : ℕ) → budgetFits b ≡ true → 1 ≤ b
 unfolding budgetFits
-some-budget b h = leb-true 1 b (both (leb 1 b) (leb b 1000000) h .0)
+some-budget b h = leb-true 1 b (both (leb 1 b) (leb b largestBudget) h .0)
 
--- and 1,000,000 at most
-pub most-budget : (b : ℕ) → budgetFits b ≡ true → b ≤ 1000000
+-- and at most the largest
+pub most-budget : (b : ℕ) → budgetFits b ≡ true → b ≤ largestBudget
 unfolding budgetFits
-most-budget b h = leb-true b 1000000 (both (leb 1 b) (leb b 1000000) h .1)
+most-budget b h = leb-true b largestBudget (both (leb 1 b) (leb b largestBudget) h .1)
 
 -- ---- the lengths of the matrix, of T and of the workspace
 
@@ -80,10 +81,18 @@ all-lent asked mn tn qn wn h =
     let l = matrices-passed _ _ mn tn qn (a .0) in
     record { alike = l .m ∙ sym (l .t); square = l .t; room = length-passed _ wn _ (a .1) }
 
+-- and of Q, where it is wanted
+pub q-lent : (asked : Setting) (mn tn qn wn : ℕ) → allLengths asked mn tn qn wn ≡ Passed → asked .wanted ≡ true → qn ≡ asked .order * asked .order
+unfolding allLengths
+q-lent asked mn tn qn wn h = matrices-passed _ _ mn tn qn (next-passed _ _ h .0) .q
+
 -- so the run's own test holds
 pub sizes-fit : {n mn tn wn : ℕ} → 1 ≤ n → n ≤ 64 → Sizes n mn tn wn → runFits n tn wn ≡ true
 unfolding runFits
 sizes-fit {n} {mn} {tn} {wn} some small z = rw (le-leb 1 n some, fitting n tn n n small (z .square) (omega arith) (omega arith), eq-eqb wn (2 * n) (z .room))
+
+pub sizes-run : {n mn tn wn : ℕ} → 1 ≤ n → n ≤ 64 → Sizes n mn tn wn → RunFits n mn wn
+sizes-run some small z = record { some = some; order = small; size = z .alike ∙ z .square; room = z .room }
 
 -- ---- then the outcome is what is said of the run
 

@@ -15,11 +15,12 @@ use Rattle.pass.specs.Pair.{Pair, pair}
 use Rattle.schur.specs.declared.run.Ran.{Ran}
 use Rattle.schur.specs.declared.run.Ran.the-variants.{Ended, BudgetReached, Unfit}
 use Rattle.schur.specs.Run.{ranOf}
-use Rattle.schur.proofs.Independent.{ranOf-same}
+use Rattle.schur.proofs.Independent.{Same, ran-same}
+use Rattle.schur.proofs.RunAnswers.{RunFits}
 use Rattle.decomposition.specs.declared.Decomposed.the-variants.{Accepted}
 use Rattle.decomposition.specs.Checks.{allLengths, resultChecks}
 use Rattle.decomposition.specs.Decomposition.{verdict, passesOf, decompositionOf}
-use Rattle.decomposition.proofs.CheckedArguments.{all-right, right-passed}
+use Rattle.decomposition.proofs.CheckedArguments.{all-right, right-passed, all-lent, sizes-run}
 use Rattle.decomposition.proofs.Touched.{checksOf, accepted-passed, as-run, accepted-run}
 
 -- ---- what passes with Q passes without
@@ -65,6 +66,17 @@ module _ (asked : Setting) (budget : ℕ) (m t q q' w : List Float) where
 
   -- ---- the two decompositions of one matrix, with one tolerance, budget, workspace and room for T
 
+  -- what is accepted was made by a run on arguments that fit
+  accepted-fits : {c : ℕ} (b : Bool) → decompositionOf (wanting b asked) budget m (pair t q) w .answer ≡ Accepted c
+      → RunFits (asked .order) (length m) (length w)
+  accepted-fits b e =
+      let r = all-right _ _ _ _ (accepted-passed _ (wanting b asked) budget m (pair t q) w e) in
+      sizes-run (r .some) (r .order) (all-lent (wanting b asked) (length m) (length t) (length q) (length w) (r .lent))
+
+  runs-same : {c : ℕ} (b d : Bool) → decompositionOf (wanting b asked) budget m (pair t q) w .answer ≡ Accepted c
+      → Same (ranOf (wanting b asked) budget (pair m q) w) (ranOf (wanting d asked) budget (pair m q') w)
+  runs-same b d e = let fits = accepted-fits b e in ran-same b d asked budget m q q' w w fits fits
+
   -- both accepted: one count, one T
   pub accepted-same : {c c' : ℕ} (b d : Bool) → decompositionOf (wanting b asked) budget m (pair t q) w .answer ≡ Accepted c
       → decompositionOf (wanting d asked) budget m (pair t q') w .answer ≡ Accepted c'
@@ -72,7 +84,7 @@ module _ (asked : Setting) (budget : ℕ) (m t q q' w : List Float) where
   accepted-same b d e f =
       let x = as-run _ (wanting b asked) budget m (pair t q) w e in
       let y = as-run _ (wanting d asked) budget m (pair t q') w f in
-      let same = ranOf-same b d asked budget m q q' w in
+      let same = runs-same b d e in
       (x .1 ∙ ap passesOf (same .answer) ∙ sym (y .1), ap (λ p. p .t) (x .2) ∙ same .t ∙ sym (ap (λ p. p .t) (y .2)))
 
   -- accepted with Q, so accepted without: the same count and the same T
@@ -81,7 +93,7 @@ module _ (asked : Setting) (budget : ℕ) (m t q q' w : List Float) where
       × (decompositionOf (with asked) budget m (pair t q) w .pair .t ≡ decompositionOf (without asked) budget m (pair t q') w .pair .t)
   accepted-without e =
       let x = as-run _ (with asked) budget m (pair t q) w e in
-      let same = ranOf-same true false asked budget m q q' w in
+      let same = runs-same true false e in
       let here = ranOf (with asked) budget (pair m q) w in
       let there = ranOf (without asked) budget (pair m q') w in
       let told = ap (λ a. verdict (without asked) a (there .pair)) (sym (same .answer))

@@ -16,7 +16,6 @@ use Rattle.decomposition.proofs.Shape.{shape-held}
 pub promised : {r : Decomposed} {w' : List Float} (asked : Setting) (budget : ℕ) (m : List Float) (p : Pair) (w : List Float) (left : Pair)
     → outcome r left w' ≡ decompositionOf asked budget m p w → belowBudget r budget × shaped r (asked .order) (left .t)
 promised {r} asked budget m p w left e =
-    let answered = ap (λ o. o .answer) e in (
-      count-below _ asked budget m p w r answered,
-      shape-held _ asked budget m p w (all-lent asked _ _ (length (p .q)) _) r (left .t) answered (ap (λ o. o .pair .t) e),
-    )
+    let answered = ap (λ o. o .answer) e in
+    let lent = all-lent asked (length m) (length (p .t)) (length (p .q)) (length w) in
+    (count-below _ asked m p w lent budget r answered, shape-held _ asked budget m p w lent r (left .t) answered (ap (λ o. o .pair .t) e))

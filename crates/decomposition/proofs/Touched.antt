@@ -110,6 +110,10 @@ module _ (lengths : Checked) (asked : Setting) (budget : ℕ) (m : List Float) (
   unfolding judged decided
   as-refused h e = rw (run-judged h) (settled-declined _ _ _ _ (rw (run-judged h) at e))
 
+  pub refused-run : {r : Refusal} → checks ≡ Passed → verdict asked (ran .answer) (ran .pair) ≡ Refused r → whole .answer ≡ Declined r
+  unfolding judged decided settled
+  refused-run h k = ap (λ o. o .answer) (run-judged h) ∙ ap (λ c. settled asked (passesOf (ran .answer)) c (ran .pair) .answer) k
+
   -- ---- where passing tells the lengths, as it does for each entry
 
   module _ (lent : lengths ≡ Passed → Sizes (asked .order) (length m) (length (p .t)) (length w)) where

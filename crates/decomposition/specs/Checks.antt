@@ -13,6 +13,7 @@ use Rattle.refusal.specs.Search.{firstNotFinite, firstSpoiling}
 use Rattle.refusal.specs.Checks.{orderChecks, lengthCheck, onlyIf, matrixLengths, entryChecks}
 use Rattle.pass.specs.declared.setting.Setting.{Setting}
 use Rattle.pass.specs.Pair.{Pair}
+use Rattle.schur.specs.Run.{largestBudget}
 
 -- ---- before the run
 
@@ -21,7 +22,7 @@ unfoldable pub toleranceFits : Float → Bool
 toleranceFits x = le zero x && lt x one
 
 unfoldable pub budgetFits : ℕ → Bool
-budgetFits b = leb 1 b && leb b 1000000
+budgetFits b = leb 1 b && leb b largestBudget
 
 -- `lengths` are the checks of all that is lent
 unfoldable pub argumentChecks : (lengths : Checked) → Setting → (budget : ℕ) → (m : List Float) → Checked

@@ -11,8 +11,10 @@ use Rattle.schur.specs.declared.run.Ran.{Ran}
 use Rattle.schur.specs.declared.run.Ran.the-variants.{Ended, BudgetReached, Unfit}
 use Rattle.schur.specs.Run.{Left, ranOf}
 use Rattle.refusal.specs.declared.refusal.Refusal.the-variants as refusal
+use Rattle.refusal.specs.declared.refusal.Told.{Told}
 use Rattle.refusal.specs.declared.refusal.Checked.{Checked}
 use Rattle.refusal.specs.declared.refusal.Checked.the-variants.{Passed, Refused}
+use Rattle.refusal.specs.Refusal.{toldOf, withoutPlace}
 use Rattle.refusal.specs.Shape.{QuasiTriangular}
 use Rattle.decomposition.specs.declared.Decomposed.{Decomposed}
 use Rattle.decomposition.specs.declared.Decomposed.the-variants.{Accepted, Declined}
@@ -86,6 +88,11 @@ decompositionOf asked budget m p w =
 -- in place: T itself is the matrix
 abbrev pub placedOf : Setting → (budget : ℕ) → Pair → (w : List Float) → Outcome
 placedOf asked budget p w = decompositionOf asked budget (p .t) p w
+
+-- what is answered, by the number and the place of document 01: 0 where it is accepted
+unfoldable pub decomposedTold : Decomposed → Told
+decomposedTold (Accepted passes) = withoutPlace 0
+decomposedTold (Declined r) = toldOf r
 
 -- an accepted count lies below the budget
 abbrev pub belowBudget : Decomposed → (budget : ℕ) → Type 0

@@ -17,7 +17,7 @@ use Rattle.pass.specs.Pair.{Pair, pair}
 use Rattle.decomposition.specs.declared.Decomposed.the-variants.{Accepted}
 use Rattle.decomposition.specs.Checks.{allLengths}
 use Rattle.decomposition.specs.Decomposition.{Outcome, Settlement, settlement, judged}
-use Rattle.decomposition.proofs.CheckedArguments.{Right, all-right, all-lent, passed-judged}
+use Rattle.decomposition.proofs.CheckedArguments.{Right, Sizes, all-right, all-lent, passed-judged}
 use Rattle.decomposition.proofs.Count.{accepted-count}
 use Rattle.decomposition.proofs.Shape.{accepted-finite, accepted-q-finite, accepted-shape}
 use Rattle.words.specs.Floats.{floatsOf, zeros}
@@ -59,6 +59,9 @@ module _ (r : Request) (m t q : List ℕ) (passed : matrixChecks r m (length t) 
       next-passes (matrices-passes (record { m = floats-length m _ (matrix-fit r m _ _ passed .matrix); t = square; q = λ _. square }))
       (length-passes WrongLength (zeros-length (2 * n)))
 
+  lent : lengths ≡ Passed → Sizes n (length a) (length (p .t)) (length w)
+  lent = all-lent asked (length a) (length (p .t)) (length (p .q)) (length w)
+
   right : Right lengths asked (r .budget) a
   unfolding matrixChecks
   right =
@@ -83,7 +86,7 @@ module _ (r : Request) (m t q : List ℕ) (passed : matrixChecks r m (length t) 
   unfolding writtenMatrices decomposedNumber
   door-accepted e =
       let told : decomposeBytes r m t q .answer ≡ decomposedNumber (libraryOf r m .answer) = ap (λ (x : Matrices). x .answer) door-decomposition in
-      (told ∙ ap decomposedNumber e, count-small (r .budget) (right .bound) (accepted-count lengths asked (r .budget) a p w e .1))
+      (told ∙ ap decomposedNumber e, count-small (r .budget) (right .bound) (accepted-count lengths asked a p w lent (r .budget) e .1))
 
   -- and such a number is an acceptance
   pub accepted-bytes : {answer : ℕ} {t' q' : List ℕ} → MatricesDone r m q answer t' q' → answer < 0x1_0000_0000 → AcceptedBytes r m answer t' q'
@@ -92,11 +95,12 @@ module _ (r : Request) (m t q : List ℕ) (passed : matrixChecks r m (length t) 
       let told : answer ≡ decomposedNumber (ranFloats r m .answer) = ap (λ (x : Matrices). x .answer) (d .bytes) in
       let came = ap (λ (s : Settlement). s .answer) library-ran in
       let e : libraryOf r m .answer ≡ Accepted answer = came ∙ accepted-number _ (omega (arith, told)) ∙ ap Accepted (sym told) in
-      let lent = all-lent asked (length a) (length (p .t)) (length (p .q)) (length w) in
+      let count = accepted-count lengths asked a p w lent (r .budget) e in
       let in-t = ap (λ (s : Settlement). s .pair .t) library-ran ∙ sym (d .held-t) in
       record {
-        counted = e;
-        below = accepted-count lengths asked (r .budget) a p w e .1;
+        accepted = e;
+        counted = count .0;
+        below = count .1;
         t-finite = subst (AllFinite n) in-t (accepted-finite lengths asked (r .budget) a p w lent e);
         t-shape = subst (QuasiTriangular n) in-t (accepted-shape lengths asked (r .budget) a p w lent e);
         q-finite = λ k.

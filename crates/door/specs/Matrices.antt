@@ -10,7 +10,7 @@ use lib.Ieee.{binary64, ofBits}
 use Rattle.pass.specs.declared.setting.Setting.{Setting}
 use Rattle.pass.specs.Setting.{setting}
 use Rattle.pass.specs.Pair.{pair}
-use Rattle.schur.specs.Run.{ranOf}
+use Rattle.schur.specs.Run.{ranOf, countOf}
 use Rattle.refusal.specs.declared.refusal.Checked.{Checked}
 use Rattle.refusal.specs.declared.refusal.Checked.the-variants.{Passed, Refused}
 use Rattle.refusal.specs.Checks.{matrixLengths}
@@ -76,10 +76,11 @@ libraryOf r m =
     let k = r .order * r .order in
     decompositionOf (askedBy r) (r .budget) (floatsOf m) (pair (zeros k) (zeros k)) (zeros (2 * r .order))
 
--- The number is the library's count of passes and lies below the budget. Of what t's bytes hold, every entry is
--- finite and the shape is quasi-triangular; of what q's hold, every entry is finite where Q is wanted.
+-- The number is the matrix's count of passes and lies below the budget. Of what t's bytes hold, every entry is finite
+-- and the shape is quasi-triangular; of what q's hold, every entry is finite where Q is wanted.
 pub record AcceptedBytes (r : Request) (m : List ℕ) (answer : ℕ) (t q : List ℕ) : Type 0 where
-  pub counted : libraryOf r m .answer ≡ Accepted answer
+  pub accepted : libraryOf r m .answer ≡ Accepted answer
+  pub counted : answer ≡ countOf (askedBy r) (floatsOf m)
   pub below : answer < r .budget
   pub t-finite : AllFinite (r .order) (floatsOf t)
   pub t-shape : QuasiTriangular (r .order) (floatsOf t)

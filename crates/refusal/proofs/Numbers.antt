@@ -102,3 +102,9 @@ pub ten-told : {c : Checked} → checkedTold c .number ≡ 10 → c ≡ Refused 
 unfolding checkedTold
 ten-told {c = Passed} e = absurd (omega arith)
 ten-told {c = Refused r} e = ap Refused (told-ten e)
+
+-- a number other than 0 is a refusal's
+pub told-refused : (c : Checked) (k : ℕ) → 1 ≤ k → checkedTold c .number ≡ k → (r : Refusal) × (c ≡ Refused r) × (toldOf r .number ≡ k)
+unfolding checkedTold
+told-refused Passed k l e = absurd (omega arith)
+told-refused (Refused r) k l e = (r, refl, e)

@@ -1,22 +1,28 @@
--- What a run answers, by the definition's count of its passes: it ends, with that count, below the budget; or the count is the budget. Assumes nothing.
-use Prim.Native.Nat.{ℕ, _+_, _<_, _≤_}
+-- What a run answers, by the definition's count, which is of the matrix alone: it ends, with that count, below the budget; or the count is the budget or more.
+-- Assumes nothing.
+use Prim.Native.Nat.{ℕ, _+_, _*_, _<_, _≤_}
 use mathlib.Core.Bool.{Bool, true, false, cond, true≢false}
-use mathlib.Core.Path.{_≡_, refl, sym, ap, _∙_}
+use mathlib.Core.Path.{_≡_, refl, sym, ap, _∙_, subst}
 use mathlib.Core.List.{List}
 use native.Mathlib.Decide.{decLt}
 use native.Mathlib.Omega.{arith}
 use lib.Dec.{eqb, leb}
+use lib.ListN.{length}
 use lib.Ieee.{Float}
-use Rattle.loops.specs.Counted.{Counted, open-count, count-most}
-use Rattle.loops.specs.Tests.{cond-hold, cond-both}
+use Rattle.loops.specs.Counted.{Counted, open-count}
+use Rattle.loops.specs.Tests.{cond-both}
+use Rattle.loops.specs.Threshold.{Threshold, never, from, threshold}
 use Rattle.matrix.specs.Vectors.{largest}
 use Rattle.window.specs.declared.Window.{Window}
 use Rattle.pass.specs.declared.setting.Setting.{Setting}
 use Rattle.pass.specs.Pair.{Pair}
 use Rattle.schur.specs.declared.run.Ran.{Ran}
 use Rattle.schur.specs.declared.run.Ran.the-variants.{Ended, BudgetReached, Unfit}
-use Rattle.schur.specs.Run.{Running, passesAt, closed, delimiting, after, turnTwo, turnMore, turnOf, runFrom, opened, Left, answered, ranOf, countOf}
-use Rattle.schur.proofs.RunAnswers.{answered-reached, answered-ended}
+use Rattle.schur.specs.Run.{Running, passesAt, closed, delimiting, after, turnTwo, turnMore, turnOf, runFrom, zeros, opened, openedOf, Left}
+use Rattle.schur.specs.Run.{answered, ranOf, largestBudget, countOf}
+use Rattle.schur.proofs.RunAnswers.{answered-reached, answered-ended, RunFits}
+use Rattle.schur.proofs.Independent.{opened-alike, runFrom-alike}
+use Rattle.schur.proofs.Lent.{fits-fresh}
 
 -- ---- a turn counts 1, or it closes the window and goes uncounted
 
@@ -42,56 +48,96 @@ pub opened-none : (asked : Setting) (p : Pair) (w : List Float) → passesAt (op
 unfolding opened delimiting
 opened-none asked p w = refl
 
--- the run's passes are the budget at most
-within : (asked : Setting) (budget : ℕ) (p : Pair) (w : List Float) → passesAt (runFrom asked budget (opened asked p w)) ≤ budget
-unfolding runFrom
-within asked budget p w = omega (arith, opened-none asked p w, count-most (run-counts asked) budget (opened asked p w))
-
 -- a run whose window is still open has counted its whole budget
 pub run-counted : (asked : Setting) (budget : ℕ) (r : Running) → passesAt r ≡ 0 → closed (runFrom asked budget r) ≡ false
     → passesAt (runFrom asked budget r) ≡ budget
 unfolding runFrom
-run-counted asked budget r first still = omega (arith, first, open-count (run-counts asked) budget r still)
+run-counted asked budget r first still = omega (arith, first, open-count (run-counts asked) _ r still)
+
+-- ---- the count at a budget, by that at the largest
+
+-- short of the budget it is the definition's; else it is the budget
+data Counts (at budget count : ℕ) : Type 0 where
+  short : count < budget → at ≡ count → Counts at budget count
+  full : budget ≤ count → at ≡ budget → Counts at budget count
+
+module _ (asked : Setting) (r : Running) (first : passesAt r ≡ 0) where
+  abbrev at : ℕ → Running
+  at budget = runFrom asked budget r
+
+  grows : Threshold (λ b. passesAt (at b)) at largestBudget
+  unfolding runFrom
+  grows = threshold (run-counts asked) r largestBudget first
+
+  counts-at : (budget : ℕ) → budget ≤ largestBudget → Counts (passesAt (at budget)) budget (passesAt (at largestBudget))
+  counts-at budget most = elim grows [
+    | never all ↦ (let last = all largestBudget (omega arith) in full (omega arith) (all budget most))
+    | from c l below above end same ↦ go c (above largestBudget l) (below budget) (above budget) (decLt c budget)
+  ]
+    where
+      go : (c : ℕ) → passesAt (at largestBudget) ≡ c → (budget ≤ c → passesAt (at budget) ≡ budget) → (c < budget → passesAt (at budget) ≡ c)
+          → Dec (c < budget) → Counts (passesAt (at budget)) budget (passesAt (at largestBudget))
+      go c e below above (yes l) = short (omega arith) (above l ∙ sym e)
+      go c e below above (no l) = full (omega arith) (below (omega arith))
+
+  -- and every budget above it ends alike
+  ends-at : (budget : ℕ) → budget ≤ largestBudget → passesAt (at largestBudget) < budget → at budget ≡ at largestBudget
+  ends-at budget most l = elim grows [
+    | never all ↦ (let last = all largestBudget (omega arith) in absurd (omega arith))
+    | from c m below above end same ↦ (let last = above largestBudget m in same budget (omega arith) ∙ sym (same largestBudget m))
+  ]
 
 -- ---- the two answers
 
 -- orders 1 and 2 end with no pass counted, even at a budget of 0
 pub data Tells (l : Left) (count budget : ℕ) : Type 0 where
   ended : (1 ≤ budget → count < budget) → l .answer ≡ Ended count → Tells l count budget
-  reached : (w : Window) → count ≡ budget → l .answer ≡ BudgetReached w → Tells l count budget
+  reached : (w : Window) → budget ≤ count → l .answer ≡ BudgetReached w → Tells l count budget
 
-answered-tells : (budget : ℕ) (amax : Float) (r : Running) → r .state .passes ≤ budget → Tells (answered budget amax r) (r .state .passes) budget
-answered-tells budget amax r l = go (decLt (r .state .passes) budget)
-  where
-    go : Dec (r .state .passes < budget) → Tells (answered budget amax r) (r .state .passes) budget
-    go (yes h) = ended (λ _. h) (sym (ap (λ x. x .answer) (answered-ended budget amax (r .state) (r .pair) r refl (λ e. omega arith))))
-    go (no h) =
-        let e : r .state .passes ≡ budget = omega arith in reached _ e (sym (ap (λ x. x .answer) (answered-reached budget amax (r .state) (r .pair) r refl e)))
+answered-tells : {count : ℕ} (budget : ℕ) (amax : Float) (r : Running) → Counts (passesAt r) budget count → Tells (answered budget amax r) count budget
+answered-tells {count} budget amax r c = elim c [
+  | short l e ↦
+      ended (λ _. l) (sym (ap (λ x. x .answer) (answered-ended budget amax (r .state) (r .pair) r refl (λ f. omega arith))) ∙ ap Ended e)
+  | full l e ↦ reached _ l (sym (ap (λ x. x .answer) (answered-reached budget amax (r .state) (r .pair) r refl e)))
+]
+
+-- a state that has counted less than either budget is answered alike
+answered-alike : (budget : ℕ) (amax : Float) (x y : Running) → x ≡ y → passesAt y < budget → budget ≤ largestBudget
+    → answered budget amax x ≡ answered largestBudget amax y
+answered-alike budget amax x y e l most =
+    ap (answered budget amax) e ∙ sym (answered-ended budget amax (y .state) (y .pair) y refl (λ f. omega arith))
+    ∙ answered-ended largestBudget amax (y .state) (y .pair) y refl (λ f. omega arith)
 
 tells-cond : {x y : Left} {i j budget : ℕ} (b : Bool) → Tells x i budget → Tells y j budget → Tells (cond b x y) (cond b i j) budget
 tells-cond true h k = h
 tells-cond false h k = k
 
--- ---- every run
+-- ---- every run on arguments that fit, with a budget up to the largest
 
-module _ (asked : Setting) (budget : ℕ) (p : Pair) (w : List Float) where
+module _ (asked : Setting) (budget : ℕ) (p : Pair) (w : List Float) (fits : RunFits (asked .order) (length (p .t)) (length w)) (most : budget ≤ largestBudget) where
   abbrev answer : Ran
   answer = ranOf asked budget p w .answer
 
   abbrev count : ℕ
-  count = countOf asked budget p w
+  count = countOf asked (p .t)
 
-  -- never above the budget
-  pub count-within : count ≤ budget
-  unfolding countOf
-  count-within = cond-hold (λ k. k ≤ budget) (eqb (asked .order) 1) _ _ (λ _. omega arith)
-      (cond-hold (λ k. k ≤ budget) (eqb (asked .order) 2) _ _ (λ _. omega arith) (within asked budget p w))
+  -- the count of the run in hand, with the largest budget, is that of the matrix
+  count-alike : passesAt (runFrom asked largestBudget (opened asked p w)) ≡ passesAt (runFrom asked largestBudget (openedOf asked (p .t)))
+  unfolding openedOf
+  count-alike =
+      let n = asked .order in
+      let b = asked .wanted in
+      let alone = opened-alike asked (p .t) w (zeros (2 * n)) fits (fits-fresh fits) b b (p .q) (zeros (n * n)) in
+      ap (λ s. s .passes) (runFrom-alike b b asked largestBudget _ _ alone .state)
+
+  counted : Counts (passesAt (runFrom asked budget (opened asked p w))) budget (passesAt (runFrom asked largestBudget (openedOf asked (p .t))))
+  counted = subst (Counts _ budget) count-alike (counts-at asked (opened asked p w) (opened-none asked p w) budget most)
 
   pub ran-tells : Tells (ranOf asked budget p w) count budget
   unfolding ranOf countOf
   ran-tells =
       tells-cond (eqb (asked .order) 1) (ended (λ l. omega arith) refl)
-      (tells-cond (eqb (asked .order) 2) (ended (λ l. omega arith) refl) (answered-tells budget (largest (p .t)) _ (within asked budget p w)))
+      (tells-cond (eqb (asked .order) 2) (ended (λ l. omega arith) refl) (answered-tells budget (largest (p .t)) _ counted))
 
   -- ended: with the count, which is below every budget that is not 0; and the other way round
   pub ended-count : {c : ℕ} → answer ≡ Ended c → c ≡ count
@@ -103,13 +149,27 @@ module _ (asked : Setting) (budget : ℕ) (p : Pair) (w : List Float) where
   pub below-ended : count < budget → answer ≡ Ended count
   below-ended l = elim ran-tells [ ended _ h ↦ h | reached _ e _ ↦ absurd (omega arith) ]
 
-  -- the budget reached: the count is the budget; and the other way round
-  pub reached-count : {v : Window} → answer ≡ BudgetReached v → count ≡ budget
+  -- the budget reached: the count is the budget or more; and the other way round
+  pub reached-count : {v : Window} → answer ≡ BudgetReached v → budget ≤ count
   reached-count e = elim ran-tells [ ended _ h ↦ (let z : _≡_ {A = ℕ} 0 1 = cc in absurd (omega arith)) | reached _ h _ ↦ h ]
 
-  pub count-reached : 1 ≤ budget → count ≡ budget → (v : Window) × (answer ≡ BudgetReached v)
+  pub count-reached : 1 ≤ budget → budget ≤ count → (v : Window) × (answer ≡ BudgetReached v)
   count-reached l e = elim ran-tells [ ended k _ ↦ absurd (omega (arith, k l)) | reached v _ h ↦ (v, h) ]
 
   -- that an argument does not fit is never the answer
   pub ran-fit : answer ≡ Unfit → ⊥
   ran-fit e = elim ran-tells [ ended _ h ↦ (let z : _≡_ {A = ℕ} 0 1 = cc in omega arith) | reached _ _ h ↦ (let z : _≡_ {A = ℕ} 0 1 = cc in omega arith) ]
+
+  -- A budget above the count is not felt: the run is that with the largest budget.
+  pub budget-not-felt : count < budget → ranOf asked budget p w ≡ ranOf asked largestBudget p w
+  unfolding ranOf countOf
+  budget-not-felt l = go (eqb (asked .order) 1) (eqb (asked .order) 2) _ _ l
+    where
+      go : (a b : Bool) (x y : Left) → cond a 0 (cond b 0 (passesAt (runFrom asked largestBudget (openedOf asked (p .t))))) < budget
+          → cond a x (cond b y (answered budget (largest (p .t)) (runFrom asked budget (opened asked p w))))
+          ≡ cond a x (cond b y (answered largestBudget (largest (p .t)) (runFrom asked largestBudget (opened asked p w))))
+      go true b x y m = refl
+      go false true x y m = refl
+      go false false x y m =
+          answered-alike budget (largest (p .t)) _ _ (ends-at asked (opened asked p w) (opened-none asked p w) budget most (omega (arith, count-alike)))
+          (omega (arith, count-alike)) most

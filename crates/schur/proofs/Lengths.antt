@@ -58,7 +58,7 @@ turnOf-length asked r =
 runFrom-length : (asked : Setting) (budget : ℕ) (r : Running) → AsLong (r .pair) (runFrom asked budget r .pair)
 unfolding runFrom
 runFrom-length asked budget r =
-    until-hold (λ x. AsLong (r .pair) (x .pair)) closed (turnOf asked) budget r (λ x h. then-long h (turnOf-length asked x)) (same-long (r .pair))
+    until-hold (λ x. AsLong (r .pair) (x .pair)) closed (turnOf asked) _ r (λ x h. then-long h (turnOf-length asked x)) (same-long (r .pair))
 
 -- ---- before the first turn, and after the last
 

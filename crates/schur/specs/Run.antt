@@ -7,6 +7,7 @@ use lib.Dec.{eqb, leb}
 use lib.ListN.{length}
 use lib.Ieee.{Float}
 use Rattle.loops.specs.Constants.{zero, one}
+use Rattle.loops.specs.Table.{table}
 use Rattle.loops.specs.Until.{until}
 use Rattle.scalar.specs.Class.{isZero}
 use Rattle.matrix.specs.Fits.{blockFits}
@@ -74,6 +75,10 @@ turnOf asked r =
 unfoldable pub runFrom : Setting → (budget : ℕ) → Running → Running
 runFrom asked budget r = until closed (turnOf asked) budget r
 
+-- TEMP
+unfoldable pub zeros : ℕ → List Float
+zeros k = table k (λ _. zero)
+
 -- ---- order 3 and up
 
 -- divided by the largest magnitude, unless that is 0
@@ -120,10 +125,34 @@ ranOf asked budget p w =
     (cond (eqb (asked .order) 2) (left (Ended 0) (orderTwo asked p))
     (answered budget (largest (p .t)) (runFrom asked budget (opened asked p w))))
 
--- the counted passes of that run: none at orders 1 and 2
-unfoldable pub countOf : Setting → (budget : ℕ) → Pair → (w : List Float) → ℕ
-countOf asked budget p w =
-    cond (eqb (asked .order) 1) 0 (cond (eqb (asked .order) 2) 0 (passesAt (runFrom asked budget (opened asked p w))))
+-- ---- of the matrix alone
+
+-- In memory that holds +0 throughout. No run feels what its memory holds (`Lent` in proofs): so each answers this, and
+-- leaves this T, and this Q where it is wanted.
+abbrev pub freshRan : Setting → (budget : ℕ) → (t : List Float) → Left
+freshRan asked budget t =
+    let n = asked .order in
+    ranOf asked budget (pair t (zeros (n * n))) (zeros (2 * n))
+
+-- the first state of that run
+unfoldable pub openedOf : Setting → (t : List Float) → Running
+openedOf asked t =
+    let n = asked .order in
+    opened asked (pair t (zeros (n * n))) (zeros (2 * n))
+
+-- ---- the definition's count: of the matrix alone, and free of the budget
+
+-- the largest budget there is
+abbrev pub largestBudget : ℕ
+largestBudget = 1000000
+
+-- the counted passes of that run with the largest budget: none at orders 1 and 2
+unfoldable pub countOf : Setting → (t : List Float) → ℕ
+countOf asked t =
+    cond (eqb (asked .order) 1) 0
+    (cond (eqb (asked .order) 2) 0 (passesAt (runFrom asked largestBudget (openedOf asked t))))
+
+-- ---- where something does not fit
 
 -- where something does not fit nothing is done
 unfoldable pub runOf : Setting → (budget : ℕ) → Pair → (w : List Float) → Left

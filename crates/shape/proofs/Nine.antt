@@ -12,12 +12,11 @@ use Rattle.scalar.specs.Class.{isFinite}
 use Rattle.matrix.specs.Vectors.{largest}
 use Rattle.matrix.proofs.Blocks.{each-place}
 use Rattle.matrix.proofs.Largest.{largest-finite}
-use Rattle.refusal.specs.declared.refusal.Place.{Place}
-use Rattle.refusal.specs.declared.refusal.Refusal.the-variants.{ResultNotFinite, ShapeSpoiled}
+use Rattle.refusal.specs.declared.refusal.Refusal.the-variants.{ResultNotFinite}
 use Rattle.refusal.specs.declared.refusal.Checked.{Checked}
-use Rattle.refusal.specs.declared.refusal.Checked.the-variants.{Passed, Refused}
+use Rattle.refusal.specs.declared.refusal.Checked.the-variants.{Passed}
 use Rattle.refusal.specs.declared.search.Search.the-variants.{Nowhere}
-use Rattle.refusal.specs.Refusal.{toldOf, refuseAt}
+use Rattle.refusal.specs.Refusal.{toldOf, refuseAt, checkedTold}
 use Rattle.refusal.specs.Search.{firstNotFinite}
 use Rattle.refusal.specs.Shape.{QuasiTriangular}
 use Rattle.refusal.proofs.ChecksInTurn.{Only, only-next, only-at}
@@ -27,12 +26,13 @@ use Rattle.pass.specs.declared.setting.Setting.{Setting}
 use Rattle.pass.specs.Pair.{Pair, pair}
 use Rattle.schur.specs.declared.run.Ran.the-variants.{Ended}
 use Rattle.schur.specs.Run.{Left, ranOf}
-use Rattle.schur.proofs.Counting.{ended, reached, ran-tells}
+use Rattle.schur.proofs.Counting.{ended, reached}
+use Rattle.schur.proofs.Lent.{fresh-same}
 use Rattle.decomposition.specs.declared.Decomposed.{Decomposed}
-use Rattle.decomposition.specs.declared.Decomposed.the-variants.{Declined}
 use Rattle.decomposition.specs.Checks.{argumentChecks, resultChecks}
-use Rattle.decomposition.specs.Decomposition.{verdict, entryOf}
-use Rattle.decomposition.proofs.CheckedArguments.{Sizes, all-right, all-lent}
+use Rattle.decomposition.specs.Decomposition.{verdict, entryOf, decomposedTold}
+use Rattle.decomposition.proofs.CheckedArguments.{Sizes, all-right, all-lent, sizes-run}
+use Rattle.decomposition.proofs.Count.{told-declined, tells}
 use Rattle.decomposition.proofs.Touched.{as-refused}
 use Rattle.plain.specs.Plain.{plainBudget, plainAsked, plainOf}
 use Rattle.plain.proofs.PlainRun.{plain-passed, plain-run}
@@ -53,10 +53,6 @@ only-eight asked p shape =
     only-next _ _ _ (eight (firstNotFinite n (p .t)) (λ _. refl))
     (only-next _ _ _ (only-asked _ (asked .wanted) _ (eight (firstNotFinite n (p .q)) (λ _. refl))) (rw (shape-nowhere n (p .t) shape) tt))
 
-not-nine : {q : Place} (asked : Setting) (p : Pair) → QuasiTriangular (asked .order) (p .t) → resultChecks asked p ≡ Refused (ShapeSpoiled q) → ⊥
-unfolding toldOf
-not-nine asked p shape h = let k = subst (Only (λ r. toldOf r .number ≡ 8)) h (only-eight asked p shape) in omega arith
-
 -- ---- any entry whose checks tell the lengths, as those of the decomposition and of the decomposition in place do
 
 module _ (lengths : Checked) (asked : Setting) (budget : ℕ) (m : List Float) (p : Pair) (w : List Float)
@@ -70,9 +66,9 @@ module _ (lengths : Checked) (asked : Setting) (budget : ℕ) (m : List Float) (
   abbrev answer : Decomposed
   answer = entryOf lengths asked budget m p w .answer
 
-  -- in some step of the run an axis was not zero, and its squares vanished
+  -- in some step of the run of the matrix an axis was not zero, and its squares vanished
   abbrev axisVanished : Bool
-  axisVanished = vanished asked budget (pair m (p .q)) w
+  axisVanished = vanished asked budget m
 
   -- the run ended short of its budget, and no axis vanished: T has the shape by the run's own steps
   pub run-shape : {c : ℕ} → checks ≡ Passed → axisVanished ≡ false → ran .answer ≡ Ended c → QuasiTriangular (asked .order) (ran .pair .t)
@@ -80,19 +76,26 @@ module _ (lengths : Checked) (asked : Setting) (budget : ℕ) (m : List Float) (
       let r = all-right _ _ _ _ h in
       let z = lent (r .lent) in
       let size = z .alike ∙ z .square in
-      ended-shape asked budget (pair m (p .q)) w (r .some) (r .order) size (z .room) (found-finite (asked .order) m (r .order) size (r .entries)) none e
+      let alone = fresh-same asked budget m (p .q) w (sizes-run (r .some) (r .order) z) in
+      subst (QuasiTriangular (asked .order)) (sym (alone .t))
+      (ended-shape asked budget m (r .some) (r .order) size (found-finite (asked .order) m (r .order) size (r .entries)) none (sym (alone .answer) ∙ e))
 
-  no-nine : {q : Place} → checks ≡ Passed → axisVanished ≡ false → answer ≡ Declined (ShapeSpoiled q) → ⊥
-  unfolding verdict
+  no-nine : checks ≡ Passed → axisVanished ≡ false → decomposedTold answer .number ≡ 9 → ⊥
+  unfolding verdict toldOf
   no-nine h none e =
-      let a = as-refused lengths asked budget m p w h e in
-      elim (ran-tells asked budget (pair m (p .q)) w) [
-        | ended _ f ↦ not-nine asked (ran .pair) (run-shape h none f) (sym (ap (λ a. verdict asked a (ran .pair)) f) ∙ a .0)
-        | reached _ _ f ↦ (let other = sym (ap (λ a. verdict asked a (ran .pair)) f) ∙ a .0 in let z : _≡_ {A = ℕ} 0 1 = cc in omega arith)
+      let d = told-declined answer 9 (omega arith) e in
+      let a = as-refused lengths asked budget m p w h (d .1) in
+      elim (tells lengths asked m p w lent budget h) [
+        | ended _ f ↦
+            (let said = sym (ap (λ a. verdict asked a (ran .pair)) f) ∙ a .0 in
+            let eight = subst (Only (λ r. toldOf r .number ≡ 8)) said (only-eight asked (ran .pair) (run-shape h none f)) in omega (arith, d .2))
+        | reached _ _ f ↦
+            (let said = sym (ap (λ a. verdict asked a (ran .pair)) f) ∙ a .0 in
+            let seven = subst (Only (λ r. toldOf r .number ≡ 7)) said refl in omega (arith, d .2))
       ]
 
   -- 9 after a run: so an axis was not zero, and its squares vanished
-  pub nine-vanished : {q : Place} → checks ≡ Passed → answer ≡ Declined (ShapeSpoiled q) → axisVanished ≡ true
+  pub nine-vanished : checks ≡ Passed → decomposedTold answer .number ≡ 9 → axisVanished ≡ true
   nine-vanished h e = go axisVanished refl
     where
       go : (b : Bool) → axisVanished ≡ b → b ≡ true
@@ -102,10 +105,8 @@ module _ (lengths : Checked) (asked : Setting) (budget : ℕ) (m : List Float) (
 -- ---- the plain entry
 
 -- its 9 is one of a run, too; in place the answer is the same (`copied-in-place` in plain)
-pub plain-nine : {q : Place} (n : ℕ) (m values w : List Float) → plainOf n m values w .answer ≡ Refused (ShapeSpoiled q)
-    → vanished (plainAsked n) plainBudget (pair m []) w ≡ true
-unfolding toldOf
+pub plain-nine : (n : ℕ) (m values w : List Float) → checkedTold (plainOf n m values w .answer) .number ≡ 9 → vanished (plainAsked n) plainBudget m ≡ true
 plain-nine n m values w e =
     let asked = plainAsked n in
-    let a = plain-run n m values w (λ f. f .1 refl) e in
+    let a = plain-run n m values w 9 (λ f. f .nine refl) e in
     nine-vanished _ asked plainBudget m (pair m []) w (all-lent asked _ _ 0 _) (plain-passed n m values w (a .0)) (a .1)

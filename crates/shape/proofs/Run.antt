@@ -25,8 +25,9 @@ use Rattle.window.specs.Window.{window}
 use Rattle.pass.specs.declared.setting.Setting.{Setting}
 use Rattle.pass.specs.Pair.{Pair, pair}
 use Rattle.schur.specs.declared.run.Ran.the-variants.{Ended}
-use Rattle.schur.specs.Run.{Running, closed, delimiting, turnOf, runFrom, scaledDown, reducedPair, opened, Left, answered, ranOf}
+use Rattle.schur.specs.Run.{zeros, Running, closed, delimiting, turnOf, runFrom, scaledDown, reducedPair, opened, Left, answered, ranOf, freshRan, openedOf}
 use Rattle.schur.proofs.Counting.{opened-none, run-counted}
+use Rattle.schur.proofs.Lent.{zeros-long}
 use Rattle.schur.proofs.Lengths.{scaledDown-length}
 use Rattle.refusal.specs.Shape.{QuasiTriangular}
 use Rattle.shape.specs.Vanished.{turnVanished, runVanished, vanished}
@@ -113,20 +114,24 @@ answered-shape {c} n budget amax r finite z counted =
     go false h short = absurd (eqb-false (r .state .passes) budget short (counted h))
 
 -- A run on a matrix of finite entries that ended short of its budget, and in which no axis was nonzero with squares that vanished, has the shape.
-pub ended-shape : {c : ℕ} (asked : Setting) (budget : ℕ) (p : Pair) (w : List Float) → 1 ≤ asked .order → asked .order ≤ 64
-    → length (p .t) ≡ asked .order * asked .order → length w ≡ 2 * asked .order → isFinite (largest (p .t)) ≡ true
-    → vanished asked budget p w ≡ false → ranOf asked budget p w .answer ≡ Ended c → QuasiTriangular (asked .order) (ranOf asked budget p w .pair .t)
-unfolding ranOf vanished
-ended-shape {c} asked budget p w some small size room finite none = go (decLt (asked .order) 3)
+pub ended-shape : {c : ℕ} (asked : Setting) (budget : ℕ) (t : List Float) → 1 ≤ asked .order → asked .order ≤ 64
+    → length t ≡ asked .order * asked .order → isFinite (largest t) ≡ true
+    → vanished asked budget t ≡ false → freshRan asked budget t .answer ≡ Ended c → QuasiTriangular (asked .order) (freshRan asked budget t .pair .t)
+unfolding ranOf vanished openedOf
+ended-shape {c} asked budget t some small size finite none = go (decLt (asked .order) 3)
   where
-    first : Running
-    first = opened asked p w
+    memory : Pair
+    memory = pair t (zeros (asked .order * asked .order))
 
-    go : Dec (asked .order < 3) → ranOf asked budget p w .answer ≡ Ended c → QuasiTriangular (asked .order) (ranOf asked budget p w .pair .t)
+    first : Running
+    first = opened asked memory (zeros (2 * asked .order))
+
+    go : Dec (asked .order < 3) → freshRan asked budget t .answer ≡ Ended c → QuasiTriangular (asked .order) (freshRan asked budget t .pair .t)
     go (yes l) = λ _. small-shape (asked .order) _ (omega arith)
     go (no l) =
         let n = asked .order in
         rw (ne-eqb n 1 (λ q. omega arith), ne-eqb n 2 (λ q. omega arith))
-        (answered-shape n budget (largest (p .t)) (runFrom asked budget first) finite
-        (run-sound asked budget first small (rw (le-leb 3 n (omega arith)) at none) (opened-sound asked p w small some size room))
-        (run-counted asked budget first (opened-none asked p w)))
+        (answered-shape n budget (largest t) (runFrom asked budget first) finite
+        (run-sound asked budget first small (rw (le-leb 3 n (omega arith)) at none)
+        (opened-sound asked memory (zeros (2 * n)) small some size (zeros-long (2 * n))))
+        (run-counted asked budget first (opened-none asked memory (zeros (2 * n)))))

@@ -16,7 +16,7 @@ use Rattle.window.specs.declared.Window.{Window}
 use Rattle.pass.specs.declared.setting.Setting.{Setting}
 use Rattle.pass.specs.Pair.{Pair}
 use Rattle.pass.specs.Pass.{firstColumn, bulgeEnd, columnAt, chased}
-use Rattle.schur.specs.Run.{Running, runFrom, opened}
+use Rattle.schur.specs.Run.{Running, runFrom, openedOf}
 
 -- ---- a column
 
@@ -61,6 +61,6 @@ turnVanished asked r =
 unfoldable pub runVanished : Setting → (budget : ℕ) → Running → Bool
 runVanished asked budget r = some (λ m. turnVanished asked (runFrom asked m r)) 0 budget
 
--- orders 1 and 2 have no pass
-unfoldable pub vanished : Setting → (budget : ℕ) → Pair → (w : List Float) → Bool
-vanished asked budget p w = leb 3 (asked .order) && runVanished asked budget (opened asked p w)
+-- orders 1 and 2 have no pass; what lent memory held is not felt, so this is of the matrix alone
+unfoldable pub vanished : Setting → (budget : ℕ) → (t : List Float) → Bool
+vanished asked budget t = leb 3 (asked .order) && runVanished asked budget (openedOf asked t)
