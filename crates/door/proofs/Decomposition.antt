@@ -64,6 +64,9 @@ module _ (r : Request) (m t q : List ℕ) (passed : matrixChecks r m (length t) 
       next-passes (matrices-passes (record { m = floats-length m _ (matrix-fit r m _ _ passed .matrix); t = square; q = λ _. square }))
       (length-passes WrongLength (zeros-length (2 * n)))
 
+  lent : lengths ≡ Passed → Sizes n (length a) (length (p .t)) (length w)
+  lent = all-lent asked (length a) (length (p .t)) (length (p .q)) (length w)
+
   right : Right lengths asked (r .budget) a
   unfolding matrixChecks
   right =
@@ -97,10 +100,12 @@ module _ (r : Request) (m t q : List ℕ) (passed : matrixChecks r m (length t) 
       let told : answer ≡ decomposedNumber (ranFloats r m .answer) = ap (λ (x : Matrices). x .answer) (d .bytes) in
       let came = ap (λ (s : Settlement). s .answer) library-ran in
       let e : libraryOf r m .answer ≡ Accepted answer = came ∙ accepted-number _ (omega (arith, told)) ∙ ap Accepted (sym told) in
+      let count = accepted-count lengths asked a p w lent (r .budget) e in
       let in-t = ap (λ (s : Settlement). s .pair .t) library-ran ∙ sym (d .held-t) in
       record {
-        counted = accepted-count lengths asked a p w lent (r .budget) e .0;
-        below = accepted-count lengths asked a p w lent (r .budget) e .1;
+        accepted = e;
+        counted = count .0;
+        below = count .1;
         t-finite = subst (AllFinite n) in-t (accepted-finite lengths asked (r .budget) a p w lent e);
         t-shape = subst (QuasiTriangular n) in-t (accepted-shape lengths asked (r .budget) a p w lent e);
         q-finite = λ k.

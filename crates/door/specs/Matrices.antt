@@ -16,6 +16,7 @@ use Rattle.refusal.specs.declared.refusal.Checked.{Checked}
 use Rattle.refusal.specs.declared.refusal.Checked.the-variants.{Passed, Refused}
 use Rattle.refusal.specs.Checks.{matrixLengths}
 use Rattle.refusal.specs.Shape.{AllFinite, QuasiTriangular}
+use Rattle.decomposition.specs.declared.Decomposed.the-variants.{Accepted}
 use Rattle.decomposition.specs.Checks.{argumentChecks}
 use Rattle.decomposition.specs.Decomposition.{Settlement, decided, Outcome, decompositionOf}
 use Rattle.words.specs.Floats.{floatsOf, bytesOf}
@@ -76,9 +77,10 @@ libraryOf r m =
     let k = r .order * r .order in
     decompositionOf (askedBy r) (r .budget) (floatsOf m) (pair (zeros k) (zeros k)) (zeros (2 * r .order))
 
--- The number is the definition's count of passes and lies below the budget. Of what t's bytes hold, every entry is
--- finite and the shape is quasi-triangular; of what q's hold, every entry is finite where Q is wanted.
+-- The number is the definition's count of passes and lies below the budget. Of what t's bytes hold, every entry is finite
+-- and the shape is quasi-triangular; of what q's hold, every entry is finite where Q is wanted.
 pub record AcceptedBytes (r : Request) (m : List ℕ) (answer : ℕ) (t q : List ℕ) : Type 0 where
+  pub accepted : libraryOf r m .answer ≡ Accepted answer
   pub counted : answer ≡ countOf (askedBy r) (floatsOf m)
   pub below : answer < r .budget
   pub t-finite : AllFinite (r .order) (floatsOf t)
