@@ -60,11 +60,8 @@ pub(crate) enum Went {
     NotMade,
 }
 
-// Makes the call: it is given m, and lent x, y and z, which are filled before.
+// Makes the call: it is given m, and lent x, y and z.
 fn make(b: &[u8], m: &[f64], x: &mut [f64], y: &mut [f64], z: &mut [f64], slots: &[f64]) -> Went {
-    lent::fill(x, word(b, FROM) as usize, slots);
-    lent::fill(y, word(b, FROM + 1) as usize, slots);
-    lent::fill(z, word(b, FROM + 2) as usize, slots);
     let came = as_stored(calls::run(call_of(b), m, x, y, z));
     if expected::same(b, came, x, y, z, slots) {
         return Went::AsExpected(came.first);
@@ -96,11 +93,14 @@ fn room() -> [f64; 4225]
     [0.0; 4225]
 }
 
-// The same, on rooms of its own.
+// The same, on rooms full of what lent memory holds.
 fn given(b: &[u8], m: &[f64], slots: &[f64]) -> Went {
     let mut x = room();
     let mut y = room();
     let mut z = room();
+    lent::fill(&mut x, word(b, FROM) as usize, slots);
+    lent::fill(&mut y, word(b, FROM + 1) as usize, slots);
+    lent::fill(&mut z, word(b, FROM + 2) as usize, slots);
     lend(b, m, &mut x, &mut y, &mut z, slots)
 }
 

@@ -147,7 +147,7 @@ impl List {
                 [u64::from(number), row as u64, col as u64]
             }
         };
-        let from = [(); 3].map(|()| self.random.below(ROOM as u64));
+        let from = [(); 3].map(|()| self.from());
         let words = [
             &[entry as u64 + 1][..],
             &given,
@@ -165,6 +165,18 @@ impl List {
             self.places[usize::from(number)].insert((row, col));
         }
         self.groups.last_mut().expect("a group was begun").1 += 1;
+    }
+
+    /// A place of the patterns that holds no NaN: a slice that is filled from there on has a number whose bits
+    /// the program tells from all others, however short it is.
+    fn from(&mut self) -> u64 {
+        let patterns = &self.slots[Slot::Lent as usize];
+        loop {
+            let from = self.random.below(ROOM as u64);
+            if !f64::from_bits(patterns[from as usize]).is_nan() {
+                return from;
+            }
+        }
     }
 
     /// What is left in the three slices: 0 all as it was, 1 NaN, 2 +0, and from 3 on what a slot holds, of
@@ -254,7 +266,9 @@ mod tests {
     fn words_and_from(list: &List) -> (Vec<u64>, Vec<u64>) {
         let mut words = words(list);
         let from = words.split_off(words.len() - 3);
-        assert!(from.iter().all(|from| *from < ROOM as u64));
+        let patterns = &list.slots[Slot::Lent as usize];
+        let first = |from: &u64| f64::from_bits(patterns[*from as usize]);
+        assert!(from.iter().all(|from| !first(from).is_nan()));
         (words, from)
     }
 

@@ -56,7 +56,7 @@ fn b_a_standing_block() {
 }
 
 /// Where a pair's discriminant is 0 neither imaginary part is above it. Here its products vanish: the block is
-/// rows (0 -1e-200), (1e-200 0) of the matrix that docs/DIFFERENCES.md names, and T is the matrix.
+/// rows (0 -1e-200), (1e-200 0), in a matrix that docs/DIFFERENCES.md names.
 #[test]
 fn a_pair_without_imaginary_parts() {
     let mut matrix = [0.0; 9];
