@@ -70,14 +70,15 @@ decomposeBytes r m t q = decomposedFrom (matrixChecks r m (length t) (length q))
 
 -- ---- an acceptance (document 00, demand 3): an answer below 2^32, which no refusal's number is
 
--- the library's answer on the floats of these bytes, lent zeros for T, Q and the workspace
+-- what the library answers on the floats of these bytes, where zeros are lent for T, Q and the workspace
 abbrev pub libraryOf : Request → (m : List ℕ) → Outcome
 libraryOf r m =
     let k = r .order * r .order in
     decompositionOf (askedBy r) (r .budget) (floatsOf m) (pair (zeros k) (zeros k)) (zeros (2 * r .order))
 
--- The number is the matrix's count of passes and lies below the budget. Of what t's bytes hold, every entry is finite
--- and the shape is quasi-triangular; of what q's hold, every entry is finite where Q is wanted.
+-- The library accepts. The number is the definition's count of passes and lies below the budget. Of what t's bytes
+-- hold, every entry is finite and the shape is quasi-triangular; of what q's hold, every entry is finite where Q is
+-- wanted.
 pub record AcceptedBytes (r : Request) (m : List ℕ) (answer : ℕ) (t q : List ℕ) : Type 0 where
   pub accepted : libraryOf r m .answer ≡ Accepted answer
   pub counted : answer ≡ countOf (askedBy r) (floatsOf m)
