@@ -35,8 +35,8 @@ pub record MatrixRooms (r : Request) (m t q : List ℕ) (a c w : List Float) : T
   pub forQ : c ≡ zeros (r .order * r .order)
   pub workspace : w ≡ zeros (2 * r .order)
 
--- What is answered and written after the run. The bytes hold T's floats, and Q's where it is wanted: a law would say
--- so of the numbers that f64 has, and not of all that the logic has, so each function says it of what it wrote.
+-- What is answered and written after the run; and the bytes hold T's floats, and Q's where it is wanted. No law says
+-- that of every number that the logic has, so each function says it of what it wrote.
 pub record MatricesDone (r : Request) (m q : List ℕ) (answer : ℕ) (t' q' : List ℕ) : Type 0 where
   pub bytes : matrices answer t' q' ≡ ranBytes r m q
   pub held-t : floatsOf t' ≡ ranFloats r m .pair .t
