@@ -67,7 +67,7 @@ module _ {vn : ℕ} (n : ℕ) (m w w' : List Float) (sized : Sized n (length m) 
         given-values (plainRead n m w) h values ∙ ap (λ r. r .values) read-lent
         ∙ sym (given-values (plainRead n m w') (sym (ap (λ r. r .answer) read-lent) ∙ h) values');
   }
-  
+
 -- what is refused before the run is the same refusal, and the matrix stands
 by-checks : {vn : ℕ} (c : Checked) (n : ℕ) (m values values' w w' : List Float) → (c ≡ Passed → Sized n (length m) vn (length w)) → length w ≡ length w'
     → SamePlain (plainBegun c n m values w) (plainBegun c n m values' w')
