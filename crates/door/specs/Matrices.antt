@@ -77,8 +77,8 @@ libraryOf r m =
     let k = r .order * r .order in
     decompositionOf (askedBy r) (r .budget) (floatsOf m) (pair (zeros k) (zeros k)) (zeros (2 * r .order))
 
--- The number is the definition's count of passes and lies below the budget. Of what t's bytes hold, every entry is finite
--- and the shape is quasi-triangular; of what q's hold, every entry is finite where Q is wanted.
+-- The number is the definition's count of passes and lies below the budget. Of what t's bytes hold, every entry is
+-- finite and the shape is quasi-triangular; of what q's hold, every entry is finite where Q is wanted.
 pub record AcceptedBytes (r : Request) (m : List ℕ) (answer : ℕ) (t q : List ℕ) : Type 0 where
   pub accepted : libraryOf r m .answer ≡ Accepted answer
   pub counted : answer ≡ countOf (askedBy r) (floatsOf m)
