@@ -58,7 +58,8 @@ uint64_t manulsek_eigenvalues(size_t order, const uint8_t *t, size_t t_len,
                               uint8_t *values, size_t values_len);
 
 /* The complex reader: real and imaginary parts of the eigenvalues of a T, a pair in two places one after
- * the other. 0, or a refusal with 1, 2, 3, 6, 9, 11 or 8. */
+ * the other: first the one with the imaginary part above 0, then the one below 0; where the block's
+ * discriminant is 0 both imaginary parts are +0. 0, or a refusal with 1, 2, 3, 6, 9, 11 or 8. */
 uint64_t manulsek_complex_eigenvalues(size_t order, const uint8_t *t, size_t t_len,
                                       uint8_t *re, size_t re_len, uint8_t *im, size_t im_len);
 

@@ -92,7 +92,8 @@ pub fn eigenvalues(order: usize, t: &[f64], values: &mut [f64]) -> Result<(), Re
 }
 
 /// The complex reader: the real and the imaginary parts of the eigenvalues of a T. A pair stands in two
-/// places one after the other, the one with the imaginary part above 0 first.
+/// places one after the other: first the one with the imaginary part above 0, then the one below 0. Where
+/// the block's discriminant is 0, as where its products vanish, both imaginary parts are +0.
 ///
 /// `re` and `im` have `order` numbers each. Refused, nothing was touched.
 #[inline]

@@ -55,6 +55,20 @@ fn b_a_standing_block() {
     assert_eq!(schur.complex_eigenvalues().unwrap(), pair);
 }
 
+/// Where a pair's discriminant is 0 neither imaginary part is above it. Here its products vanish: the block is
+/// rows (0 -1e-200), (1e-200 0), in a matrix that docs/DIFFERENCES.md names.
+#[test]
+fn a_pair_without_imaginary_parts() {
+    let mut matrix = [0.0; 9];
+    (matrix[1], matrix[3], matrix[8]) = (1e-200, -1e-200, 2e-200);
+    let schur = run(&matrix, 1).unwrap();
+    assert!(schur.t()[1] != 0.0);
+    assert_eq!(schur.eigenvalues(), Err(refusal(10, 0, 0)));
+    let (re, im): (Vec<f64>, Vec<f64>) = schur.complex_eigenvalues().unwrap().into_iter().unzip();
+    assert_eq!(bits(&re), bits(&[0.0, 0.0, 2e-200]));
+    assert_eq!(bits(&im), [0; 3]);
+}
+
 #[test]
 fn c_zeros() {
     let schur = run(&[0.0; 9], 1).unwrap();
