@@ -135,9 +135,15 @@ impl Options {
         (self.small * 2 / 5).div_ceil(plans).max(2)
     }
 
-    /// The stream behind those of the families with this number.
-    fn stream(&self, number: usize) -> Random {
-        Random::stream(self.seed, (JOBS + number) as u64)
+    /// The stream with this number, behind it that of the same number for what stands in lent memory: the
+    /// inputs do not depend on that. The first streams are the families'.
+    fn streams(&self, number: usize) -> [Random; 2] {
+        [self.seed, !self.seed].map(|seed| Random::stream(seed, number as u64))
+    }
+
+    /// Those behind the families' with this number.
+    fn later_streams(&self, number: usize) -> [Random; 2] {
+        self.streams(JOBS + number)
     }
 }
 
@@ -277,10 +283,8 @@ fn of_families(side: &Side, options: &Options) -> Vec<Tally> {
 
 fn part(side: &Side, options: &Options, job: usize) -> Tally {
     let family = &FAMILIES[job / PARTS];
-    // What stands in lent memory has a stream of its own: a check that ends early takes less of it,
-    // and the next matrix must not depend on that.
-    let mut random = Random::stream(options.seed, job as u64);
-    let mut lent = Random::stream(!options.seed, job as u64);
+    // A check that ends early takes less of the second: the next matrix must not depend on that.
+    let [mut random, mut lent] = options.streams(job);
     let mut tally = Tally::default();
     for (orders, count) in [(SMALL, options.small), (LARGE, options.large)] {
         for _ in 0..count.div_ceil(JOBS) {
@@ -303,7 +307,7 @@ fn of_cases(side: &Side, cases: &[Case]) -> Tally {
 /// Both readers on T's that are made block by block; a quarter of them is damaged.
 fn of_shapes(side: &Side, options: &Options) -> Tally {
     let parts = jobs::on_all_cores(PARTS, |job| {
-        let mut random = options.stream(job);
+        let [mut random, mut lent] = options.later_streams(job);
         let mut tally = Tally::default();
         for _ in 0..options.shapes().div_ceil(PARTS) {
             let order = 1 + random.below(12) as usize;
@@ -313,7 +317,7 @@ fn of_shapes(side: &Side, options: &Options) -> Tally {
             }
             for entry in [Entry::Real, Entry::Complex] {
                 let call = Call::new(entry, order, &t);
-                tally.add_call(side, &mut Judge::default(), &call, None, &mut random);
+                tally.add_call(side, &mut Judge::default(), &call, None, &mut lent);
             }
         }
         tally
@@ -325,17 +329,18 @@ fn of_shapes(side: &Side, options: &Options) -> Tally {
 }
 
 fn of_faults(side: &Side, options: &Options) -> Tally {
-    let bases = Bases::gather(&mut options.stream(PARTS));
+    let [mut random, _] = options.later_streams(PARTS);
+    let bases = Bases::gather(&mut random);
     let plans = Plan::all();
     let calls = options.calls(plans.len());
     let parts = jobs::on_all_cores(plans.len(), |job| {
         let plan = &plans[job];
-        let mut random = options.stream(PARTS + 1 + job);
+        let [mut random, mut lent] = options.later_streams(PARTS + 1 + job);
         let mut judge = Judge::default();
         let mut tally = Tally::default();
         for _ in 0..if plan.long() { 2 } else { calls } {
             let call = plan.draw(&bases, &mut random);
-            tally.add_call(side, &mut judge, &call, Some(plan.number()), &mut random);
+            tally.add_call(side, &mut judge, &call, Some(plan.number()), &mut lent);
         }
         tally
     });

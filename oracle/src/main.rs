@@ -16,6 +16,7 @@ mod leaves;
 mod model;
 mod numbers;
 mod options;
+mod patterns;
 mod random;
 mod records;
 mod replay;

@@ -3,12 +3,14 @@ ghost use mathlib.Core.Path.{_≡_};
 ghost use lib.ListN.{length};
 use crate::answer::as_stored;
 use crate::expected;
+use crate::lent;
 use crate::slots::start;
 use crate::unpack::word;
 use calls::Call;
 use calls::Entry;
 
-// The places of a case's words; x, y and z, the answer, and what is left in x, y and z have three each.
+// The places of a case's words; the lengths of x, y and z, the answer, what is left in x, y and z, and from where
+// they are filled have three each.
 pub(crate) const ENTRY: usize = 0;
 
 const SLOT: usize = 1;
@@ -27,8 +29,7 @@ pub(crate) const ANSWER: usize = 9;
 
 pub(crate) const LEFT: usize = 12;
 
-// What lent memory holds before a call. No answer has it: the oracle sees to that.
-pub(crate) const LENT: u64 = 0x0123_4567_89ab_cdef;
+pub(crate) const FROM: usize = 15;
 
 // The entry of a number from 1 to 6.
 fn entry_of(number: u64) -> Entry {
@@ -89,8 +90,7 @@ fn lend(b: &[u8], m: &[f64], x: &mut [f64], y: &mut [f64], z: &mut [f64], slots:
 fn room() -> [f64; 4225]
     ensures { λ r. ⌜ 4225 ≡ length r ⌝ }
 {
-    let lent = scalar::of_bits(LENT);
-    [lent; 4225]
+    [0.0; 4225]
 }
 
 // The same, on rooms full of what lent memory holds.
@@ -98,6 +98,9 @@ fn given(b: &[u8], m: &[f64], slots: &[f64]) -> Went {
     let mut x = room();
     let mut y = room();
     let mut z = room();
+    lent::fill(&mut x, word(b, FROM) as usize, slots);
+    lent::fill(&mut y, word(b, FROM + 1) as usize, slots);
+    lent::fill(&mut z, word(b, FROM + 2) as usize, slots);
     lend(b, m, &mut x, &mut y, &mut z, slots)
 }
 

@@ -1,8 +1,9 @@
 // What is expected of a case, against what came. What differs is said.
 use crate::answer::Stored;
 use crate::case::ANSWER;
+use crate::case::FROM;
 use crate::case::LEFT;
-use crate::case::LENT;
+use crate::lent;
 use crate::say;
 use crate::say::whole;
 use crate::say::word;
@@ -52,24 +53,36 @@ fn unlike_slot(v: &[f64], k: usize, slots: &[f64]) -> usize {
     unlike(v, &slots[from..])
 }
 
+// The first place of v that does not hold what it was filled with, from this place on; the length where there is none.
+fn touched(v: &[f64], from: usize, slots: &[f64]) -> usize {
+    for i in 0..v.len() {
+        if scalar::bits_of(v[i]) != scalar::bits_of(lent::number(slots, from, i)) {
+            return i;
+        }
+    }
+    v.len()
+}
+
 // The first place of v that does not hold what is expected to be left there; the length where there is none.
-fn place(v: &[f64], left: usize, slots: &[f64]) -> usize {
+fn place(v: &[f64], left: usize, from: usize, slots: &[f64]) -> usize {
     match left {
-        0 => other_than(v, LENT),
+        0 => touched(v, from, slots),
         1 => other_than(v, 0x7ff8_0000_0000_0000),
         2 => other_than(v, 0),
         _ => unlike_slot(v, left - 3, slots),
     }
 }
 
-// The word at `left` says what is expected.
-fn slice(number: u64, v: &[f64], b: &[u8], left: usize, slots: &[f64]) -> bool {
-    let at = place(v, unpack::word(b, left) as usize, slots);
+// Slice k, from 0 on, against what the case says of it.
+fn slice(k: usize, v: &[f64], b: &[u8], slots: &[f64]) -> bool {
+    let left = unpack::word(b, LEFT + k % 3) as usize;
+    let from = unpack::word(b, FROM + k % 3) as usize;
+    let at = place(v, left, from, slots);
     if at == v.len() {
         return true;
     }
     word(b"slice ");
-    whole(number);
+    whole((k % 3 + 1) as u64);
     word(b" at ");
     whole(at as u64);
     word(b", ");
@@ -79,8 +92,8 @@ fn slice(number: u64, v: &[f64], b: &[u8], left: usize, slots: &[f64]) -> bool {
 // Whether all is as expected.
 pub(crate) fn same(b: &[u8], came: Stored, x: &[f64], y: &[f64], z: &[f64], slots: &[f64]) -> bool {
     let answered = answer(b, came);
-    let first = slice(1, x, b, LEFT, slots);
-    let second = slice(2, y, b, LEFT + 1, slots);
-    let third = slice(3, z, b, LEFT + 2, slots);
+    let first = slice(0, x, b, slots);
+    let second = slice(1, y, b, slots);
+    let third = slice(2, z, b, slots);
     answered && first && second && third
 }

@@ -11,8 +11,8 @@
 // The head's first byte is the record's kind, the second a small number s, the next two the number of words.
 //   g  a group begins; its name is the first s bytes that follow
 //   n  the words are the patterns of numbers, which are put into slot s: 0 for a matrix, 1 for T, 2 for Q, 3 and 4
-//      for eigenvalues, 3 for a root. They stay there
-//   c  a case: 15 words
+//      for eigenvalues, 3 for a root, 5 for what lent memory is filled with. They stay there
+//   c  a case: 18 words
 //        entry: 1 decomposition with Q, 2 decomposition without Q, 3 real reader, 4 complex reader, 5 plain entry,
 //          6 root
 //        the slot with what it is given, and how many numbers of it; order, pattern of the tolerance, budget
@@ -20,11 +20,14 @@
 //          parts; eigenvalues and workspace; a root
 //        the answer: a refusal's number, row and column; or 0, the passes of a decomposition and 0; or three zeros
 //          where another entry gave its values
-//        what is left in each of the three: 0 what they held before, which is 0123456789abcdef throughout; 1 NaN,
-//          2 +0, 3 and on the numbers of slot 0 and on
+//        what is left in each of the three: 0 what they held before, 1 NaN, 2 +0, 3 and on the numbers of slot 0
+//          and on
+//        the place of slot 5 from which each of the three is filled before the call; behind its last place comes
+//          its first again
 mod answer;
 mod case;
 mod expected;
+mod lent;
 mod list;
 mod met;
 mod say;

@@ -1,19 +1,20 @@
-// Five slots for numbers, one behind the other in one slice, each with room for 4225: order 65 has its lengths too.
+// Six slots for numbers, one behind the other in one slice, each with room for 4225: order 65 has its lengths too.
+// The last holds what lent memory is filled with.
 ghost use mathlib.Core.Path.{_≡_};
 ghost use lib.ListN.{length};
 ghost use Prim.Native.Nat.{_+_, _≤_, _<_};
 use crate::unpack::word;
 
-pub(crate) fn empty() -> [f64; 21125]
-    ensures { λ r. ⌜ 21125 ≡ length r ⌝ }
+pub(crate) fn empty() -> [f64; 25350]
+    ensures { λ r. ⌜ 25350 ≡ length r ⌝ }
 {
-    [0.0; 21125]
+    [0.0; 25350]
 }
 
 // Where slot k begins.
 pub(crate) fn start(k: usize) -> usize
-    requires { ⌜ k < 5 ⌝ }
-    ensures { λ r. ⌜ r + 4225 ≤ 21125 ⌝ }
+    requires { ⌜ k < 6 ⌝ }
+    ensures { λ r. ⌜ r + 4225 ≤ 25350 ⌝ }
 {
     k * 4225
 }
@@ -28,7 +29,7 @@ fn numbers(b: &[u8], v: &mut [f64]) {
 // Puts the numbers of these patterns into slot k: false where there is no room for them.
 pub(crate) fn put(b: &[u8], k: usize, slots: &mut [f64]) -> bool {
     let count = b.len() / 8;
-    if 5 <= k {
+    if 6 <= k {
         return false;
     }
     if 4225 < count {

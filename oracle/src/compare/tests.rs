@@ -142,27 +142,31 @@ fn checks_in_another_order_are_found() {
     );
 }
 
+/// Few of the calls have two entries at fault of which the second stands in an earlier row: it takes more calls.
 #[test]
 fn a_place_told_row_by_row_is_found() {
-    found(
-        decomposes(|n, m, tolerance, budget, wanted, t, q| {
-            let answer = (MODEL.decompose)(n, m, tolerance, budget, wanted, t, q);
-            if number(answer) != 6 {
-                return answer;
-            }
-            let bad = |entry: usize| {
-                let eight = m[8 * entry..8 * entry + 8].try_into().unwrap();
-                !f64::from_le_bytes(eight).is_finite()
-            };
-            let entries = (0..n).flat_map(|row| (0..n).map(move |col| (row, col)));
-            let (row, col) = entries
-                .into_iter()
-                .find(|(row, col)| bad(row + col * n))
-                .unwrap();
-            (6 << 32) + ((row as u64) << 16) + col as u64
-        }),
-        5,
-    );
+    let side = decomposes(|n, m, tolerance, budget, wanted, t, q| {
+        let answer = (MODEL.decompose)(n, m, tolerance, budget, wanted, t, q);
+        if number(answer) != 6 {
+            return answer;
+        }
+        let bad = |entry: usize| {
+            let eight = m[8 * entry..8 * entry + 8].try_into().unwrap();
+            !f64::from_le_bytes(eight).is_finite()
+        };
+        let entries = (0..n).flat_map(|row| (0..n).map(move |col| (row, col)));
+        let (row, col) = entries
+            .into_iter()
+            .find(|(row, col)| bad(row + col * n))
+            .unwrap();
+        (6 << 32) + ((row as u64) << 16) + col as u64
+    });
+    let options = Options {
+        small: 15_000,
+        ..options()
+    };
+    let mismatches = of_faults(&side, &options).mismatches;
+    assert!(mismatches >= 5, "{mismatches}");
 }
 
 /// A side that looks for 8 in Q before it looks in T answers as the right one does on every run that is
@@ -265,6 +269,117 @@ fn what_must_not_be_touched_is_looked_at() {
                 let answer = (MODEL.plain_eigenvalues)(n, m, values);
                 if let (10, Some(first)) = (number(answer), values.first_mut()) {
                     *first ^= 1;
+                }
+                answer
+            },
+            ..MODEL
+        },
+        100,
+    );
+}
+
+/// A number by its eight bytes becomes another, where `which` says so.
+fn change(bytes: &mut [u8], which: fn(u64) -> Option<u64>) {
+    for eight in bytes.chunks_exact_mut(8) {
+        let pattern = u64::from_le_bytes(eight[..].try_into().unwrap());
+        if let Some(other) = which(pattern) {
+            eight.copy_from_slice(&other.to_le_bytes());
+        }
+    }
+}
+
+/// What would not be seen on memory that holds zeros, or one number throughout.
+#[test]
+fn lent_patterns_show_what_zeros_would_hide() {
+    // Only what is not +0 is written: right if zeros are lent.
+    found(
+        decomposes(|n, m, tolerance, budget, wanted, t, q| {
+            let before = t.to_vec();
+            let answer = (MODEL.decompose)(n, m, tolerance, budget, wanted, t, q);
+            for (eight, was) in t.chunks_exact_mut(8).zip(before.chunks_exact(8)) {
+                if *eight == [0; 8] {
+                    eight.copy_from_slice(was);
+                }
+            }
+            answer
+        }),
+        100,
+    );
+    // The same of a list.
+    found(
+        Side {
+            complex_eigenvalues: |n, t, re, im| {
+                let before = im.to_vec();
+                let answer = (MODEL.complex_eigenvalues)(n, t, re, im);
+                for (eight, was) in im.chunks_exact_mut(8).zip(before.chunks_exact(8)) {
+                    if *eight == [0; 8] {
+                        eight.copy_from_slice(was);
+                    }
+                }
+                answer
+            },
+            ..MODEL
+        },
+        100,
+    );
+    // After a refused run what is no NaN becomes one, and a NaN is left as it is.
+    found(
+        decomposes(|n, m, tolerance, budget, wanted, t, q| {
+            let before = t.to_vec();
+            let answer = (MODEL.decompose)(n, m, tolerance, budget, wanted, t, q);
+            let eights = t.chunks_exact_mut(8).zip(before.chunks_exact(8));
+            for (eight, was) in eights.filter(|_| number(answer) >= 7) {
+                if f64::from_le_bytes(was.try_into().unwrap()).is_nan() {
+                    eight.copy_from_slice(was);
+                }
+            }
+            answer
+        }),
+        100,
+    );
+    // A refusal before the run goes over T as floats: a NaN that signals comes back quiet.
+    found(
+        decomposes(|n, m, tolerance, budget, wanted, t, q| {
+            let answer = (MODEL.decompose)(n, m, tolerance, budget, wanted, t, q);
+            if (1..=6).contains(&number(answer)) {
+                change(t, |x| f64::from_bits(x).is_nan().then_some(x | 1 << 51));
+            }
+            answer
+        }),
+        100,
+    );
+    // The same by sums: -0 comes back as +0 in a Q that is not wanted.
+    found(
+        decomposes(|n, m, tolerance, budget, wanted, t, q| {
+            if wanted == 0 {
+                change(q, |x| (x == 1 << 63).then_some(0));
+            }
+            (MODEL.decompose)(n, m, tolerance, budget, wanted, t, q)
+        }),
+        100,
+    );
+    // Subnormal numbers come back as zeros, in the list of a reader that refuses.
+    found(
+        Side {
+            eigenvalues: |n, t, values| {
+                let answer = (MODEL.eigenvalues)(n, t, values);
+                if answer != 0 {
+                    let zero = |x: u64| f64::from_bits(x).is_subnormal().then_some(x & 1 << 63);
+                    change(values, zero);
+                }
+                answer
+            },
+            ..MODEL
+        },
+        100,
+    );
+    // An infinite number in the list of the plain entry becomes the largest.
+    found(
+        Side {
+            plain_eigenvalues: |n, m, values| {
+                let answer = (MODEL.plain_eigenvalues)(n, m, values);
+                if answer != 0 {
+                    change(values, |x| f64::from_bits(x).is_infinite().then_some(x - 1));
                 }
                 answer
             },

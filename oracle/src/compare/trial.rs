@@ -1,10 +1,11 @@
-//! One call of a side on memory that holds anything, held to the judge's ruling: the answer, and every
-//! byte that was lent or stands beside it.
+//! One call of a side on memory that holds patterns of every kind, others in each call, held to the judge's
+//! ruling: the answer, and every byte that was lent or stands beside it.
 
 use super::side::Side;
 use crate::call::{Call, Entry};
 use crate::door::NAN;
 use crate::judge::{After, Judge, Ruling};
+use crate::patterns;
 use crate::random::Random;
 use manulsek::Refusal;
 use std::ops::Range;
@@ -58,13 +59,11 @@ impl Lent {
             start..end
         });
         let mut bytes = garbage(random, end + GUARD);
-        // A NaN with a payload, or one that signals, may be made quiet by a copy that goes through floats.
-        if random.below(4) == 0 {
-            let nan = (NAN ^ (random.below(2) << 51)) | (random.below(2) << 63) | 5;
-            for slice in &slices[1..] {
-                let eights = bytes[slice.clone()].chunks_exact_mut(8);
-                eights.for_each(|eight| eight.copy_from_slice(&nan.to_le_bytes()));
-            }
+        for slice in &slices[1..] {
+            let patterns = patterns::slice(random, slice.len().div_ceil(8));
+            let patterns = patterns.into_iter().flat_map(u64::to_le_bytes);
+            let places = bytes[slice.clone()].iter_mut();
+            places.zip(patterns).for_each(|(place, byte)| *place = byte);
         }
         bytes[slices[0].clone()].copy_from_slice(&call.input);
         Lent { bytes, slices }
@@ -167,6 +166,56 @@ mod tests {
         }
         assert!(beside >= 4 * GUARD);
         assert_eq!(differs(&lent.bytes, &lent.bytes), None);
+    }
+
+    /// Every call is lent other patterns in both of its slices, all of them drawn: none is what a call leaves.
+    /// One seed gives the same again.
+    #[test]
+    fn calls_are_lent_patterns() {
+        let lists = |seed: u64| {
+            let mut random = Random::stream(seed, 0);
+            let call = Call::new(Entry::Decompose, 3, &[1.0; 9]);
+            let lent = (0..500).map(|_| Lent::new(&call, &mut random));
+            let numbers = lent.map(|lent| {
+                let number = |eight: &[u8]| u64::from_le_bytes(eight.try_into().unwrap());
+                let slices = lent.slices[1..].iter();
+                let bytes = slices.flat_map(|slice| lent.bytes[slice.clone()].chunks_exact(8));
+                bytes.map(number).collect()
+            });
+            numbers.collect::<Vec<Vec<u64>>>()
+        };
+        let lent = lists(1);
+        assert!(lent == lists(1) && lent != lists(2));
+        let numbers: Vec<u64> = lent.concat();
+        assert_eq!(numbers.len(), 500 * 18);
+        assert!(!numbers.contains(&0) && !numbers.contains(&NAN));
+        let floats: Vec<f64> = numbers.into_iter().map(f64::from_bits).collect();
+        for odd in [
+            f64::is_nan,
+            f64::is_infinite,
+            f64::is_subnormal,
+            f64::is_normal,
+        ] {
+            assert!(floats.iter().filter(|x| odd(**x)).count() > 500);
+        }
+        let others = lent.windows(2).filter(|two| two[0] != two[1]).count();
+        assert!(others > 490, "{others}");
+    }
+
+    /// A slice whose length is no number of numbers is filled to its last byte.
+    #[test]
+    fn odd_lengths_are_filled() {
+        let mut random = Random::stream(1, 0);
+        let mut call = Call::new(Entry::Decompose, 2, &[1.0; 4]);
+        call.out = [31, 1];
+        let mut last = [0; 2];
+        for _ in 0..200 {
+            let lent = Lent::new(&call, &mut random);
+            for (seen, slice) in last.iter_mut().zip(&lent.slices[1..]) {
+                *seen |= lent.bytes[slice.end - 1];
+            }
+        }
+        assert_eq!(last, [0xff; 2]);
     }
 
     #[test]

@@ -47,7 +47,7 @@ pub struct Made {
 
 pub fn all() -> Made {
     let mut made = Made {
-        list: List::default(),
+        list: List::new(),
         covered: Covered::default(),
         judge: Judge::default(),
         random: Random::stream(SEED, 0),

@@ -4,15 +4,16 @@
 use crate::call::{Call, Entry};
 use crate::door::one_nan;
 use crate::judge::{After, Answer, Judge, Refusal};
+use crate::options::SEED;
+use crate::patterns;
+use crate::random::Random;
 use std::collections::BTreeSet;
 
 /// The most numbers that a call is given, or lent in one slice: order 65 has its lengths too.
 pub const ROOM: usize = 65 * 65;
 
-/// What lent memory holds before a call. No answer may hold it.
-const LENT: u64 = 0x0123_4567_89ab_cdef;
-
-/// Where the program keeps numbers: for a matrix, T, Q, and the two lists of eigenvalues.
+/// Where the program keeps numbers: for a matrix, T, Q, and the two lists of eigenvalues; and patterns of
+/// every kind, with which lent memory is filled before a call.
 #[derive(Clone, Copy)]
 pub enum Slot {
     Matrix,
@@ -20,6 +21,7 @@ pub enum Slot {
     Q,
     First,
     Second,
+    Lent,
 }
 
 /// The entries; the program counts them from 1 on.
@@ -38,10 +40,11 @@ pub const ROOT: usize = NAMES.len() - 1;
 /// The number of an answer is below this.
 const NUMBERS: usize = 12;
 
-#[derive(Default)]
 pub struct List {
     pub bytes: Vec<u8>,
-    slots: [Vec<u64>; 5],
+    slots: [Vec<u64>; 6],
+    /// For the place in the slot of patterns from which each slice is filled, and for these.
+    random: Random,
     /// The groups with the number of their cases.
     groups: Vec<(String, usize)>,
     /// How often each entry gave each number, 0 for accepted; and the places that each number told.
@@ -50,6 +53,22 @@ pub struct List {
 }
 
 impl List {
+    /// A list without cases. It begins with the patterns.
+    pub fn new() -> List {
+        let mut list = List {
+            bytes: Vec::new(),
+            slots: Default::default(),
+            random: Random::stream(!SEED, 0),
+            groups: Vec::new(),
+            met: Default::default(),
+            places: Default::default(),
+        };
+        let patterns = (0..ROOM).map(|_| patterns::mixed(&mut list.random));
+        let patterns = patterns.collect();
+        list.put(Slot::Lent, patterns);
+        list
+    }
+
     /// The cases that follow belong to this group.
     pub fn group(&mut self, name: &str) {
         let mut text = name.as_bytes().to_vec();
@@ -111,7 +130,8 @@ impl List {
     }
 
     /// The record of a case: the place of its entry's name; the slot and how many numbers of it are given;
-    /// order, tolerance and budget; the lengths of what is lent; the answer; what is left.
+    /// order, tolerance and budget; the lengths of what is lent; the answer; what is left. Then come the
+    /// places from which the slices are filled: others in each case.
     fn record(
         &mut self,
         entry: usize,
@@ -127,6 +147,7 @@ impl List {
                 [u64::from(number), row as u64, col as u64]
             }
         };
+        let from = [(); 3].map(|()| self.from());
         let words = [
             &[entry as u64 + 1][..],
             &given,
@@ -134,6 +155,7 @@ impl List {
             &lengths.map(|length| length as u64),
             &stored,
             &left,
+            &from,
         ]
         .concat();
         self.head(b'c', 0, words.len());
@@ -143,6 +165,18 @@ impl List {
             self.places[usize::from(number)].insert((row, col));
         }
         self.groups.last_mut().expect("a group was begun").1 += 1;
+    }
+
+    /// A place of the patterns that holds no NaN: a slice that is filled from there on has a number whose bits
+    /// the program tells from all others, however short it is.
+    fn from(&mut self) -> u64 {
+        let patterns = &self.slots[Slot::Lent as usize];
+        loop {
+            let from = self.random.below(ROOM as u64);
+            if !f64::from_bits(patterns[from as usize]).is_nan() {
+                return from;
+            }
+        }
     }
 
     /// What is left in the three slices: 0 all as it was, 1 NaN, 2 +0, and from 3 on what a slot holds, of
@@ -155,9 +189,7 @@ impl List {
             (After::Numbers(numbers), _) if numbers.iter().all(|x| x.to_bits() == 0) => 2,
             (After::Numbers(numbers), slot) => {
                 let slot = slot.expect("a workspace holds +0");
-                let patterns: Vec<u64> = numbers.into_iter().map(one_nan).collect();
-                assert!(!patterns.contains(&LENT), "an answer has {LENT:016x}");
-                self.put(slot, patterns);
+                self.put(slot, numbers.into_iter().map(one_nan).collect());
                 3 + slot as u64
             }
         })
@@ -222,12 +254,43 @@ impl List {
 mod tests {
     use super::*;
 
-    /// The words of a list.
+    /// The words of a list behind its patterns.
     fn words(list: &List) -> Vec<u64> {
-        let eights = list.bytes.chunks(8);
+        let eights = list.bytes.chunks(8).skip(1 + ROOM);
         eights
             .map(|eight| u64::from_le_bytes(eight.try_into().unwrap()))
             .collect()
+    }
+
+    /// The same without the last words of its last case, which say from where its slices are filled; and these.
+    fn words_and_from(list: &List) -> (Vec<u64>, Vec<u64>) {
+        let mut words = words(list);
+        let from = words.split_off(words.len() - 3);
+        let patterns = &list.slots[Slot::Lent as usize];
+        let first = |from: &u64| f64::from_bits(patterns[*from as usize]);
+        assert!(from.iter().all(|from| !first(from).is_nan()));
+        (words, from)
+    }
+
+    #[test]
+    fn a_list_begins_with_patterns() {
+        let list = List::new();
+        assert_eq!(list.bytes.len(), 8 + 8 * ROOM);
+        let [low, high] = (ROOM as u16).to_le_bytes();
+        assert_eq!(list.bytes[..8], [b'n', 5, low, high, 0, 0, 0, 0]);
+        let patterns = &list.slots[Slot::Lent as usize];
+        assert!(!patterns.contains(&0) && !patterns.contains(&crate::door::NAN));
+        let floats = patterns.iter().copied().map(f64::from_bits);
+        let floats: Vec<f64> = floats.collect();
+        for odd in [
+            f64::is_nan,
+            f64::is_infinite,
+            f64::is_subnormal,
+            f64::is_normal,
+        ] {
+            assert!(floats.iter().filter(|x| odd(**x)).count() > 400);
+        }
+        assert!(patterns.iter().filter(|x| **x == 1 << 63).count() > 400);
     }
 
     /// J, rows (0 -1), (1 0), and the complex reader: what a slot holds is not written again.
@@ -235,7 +298,7 @@ mod tests {
     fn cases_are_written() {
         let j = [0.0, 1.0, -1.0, 0.0];
         let (one, minus) = (1f64.to_bits(), (-1f64).to_bits());
-        let mut list = List::default();
+        let mut list = List::new();
         list.group("J");
         let call = Call::new(Entry::Complex, 2, &j);
         let answer = list.case(&mut Judge::default(), &call, Slot::T, 0);
@@ -245,13 +308,17 @@ mod tests {
         let case = [4, 1, 4, 2, call.tolerance, 1, 2, 2, 0, 0, 0, 0, 2, 7, 0];
         let mut right = vec![head(b'g', 1, 1), u64::from_le_bytes(*b"J       ")];
         right.extend([head(b'n', 1, 4), 0, one, minus, 0]);
-        right.extend([head(b'n', 4, 2), one, minus, head(b'c', 0, 15)]);
+        right.extend([head(b'n', 4, 2), one, minus, head(b'c', 0, 18)]);
         right.extend(case);
-        assert_eq!(words(&list), right);
+        let (words, from) = words_and_from(&list);
+        assert_eq!(words, right);
         list.case(&mut Judge::default(), &call, Slot::T, 0);
-        right.push(head(b'c', 0, 15));
+        right.extend(&from);
+        right.push(head(b'c', 0, 18));
         right.extend(case);
-        assert_eq!(words(&list), right);
+        let (words, other) = words_and_from(&list);
+        assert_eq!(words, right);
+        assert!(from.iter().zip(&other).all(|(x, y)| x != y));
         assert!(list.page().starts_with("J: 2 cases, 0 differ\n"));
         assert!(list
             .page()
@@ -260,16 +327,17 @@ mod tests {
 
     #[test]
     fn a_root_is_written() {
-        let mut list = List::default();
+        let mut list = List::new();
         list.group("4");
         list.root(4.0);
-        let [.., head, number, first, root] = words(&list)[..words(&list).len() - 16] else {
+        let (words, _) = words_and_from(&list);
+        let [.., head, number, first, root] = words[..words.len() - 16] else {
             panic!("the two numbers");
         };
         assert_eq!((head & 0xff, first & 0xffff), (u64::from(b'n'), 0x036e));
         assert_eq!((number, root), (4f64.to_bits(), 2f64.to_bits()));
         let case = [6, 0, 1, 0, 0, 0, 1, 0, 0, 0, 0, 0, 6, 0, 0];
-        assert_eq!(words(&list)[words(&list).len() - 15..], case);
+        assert_eq!(words[words.len() - 15..], case);
         assert!(list.page().contains("root: 1 accepted\n"));
     }
 
