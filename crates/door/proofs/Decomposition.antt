@@ -64,9 +64,6 @@ module _ (r : Request) (m t q : List ℕ) (passed : matrixChecks r m (length t) 
       next-passes (matrices-passes (record { m = floats-length m _ (matrix-fit r m _ _ passed .matrix); t = square; q = λ _. square }))
       (length-passes WrongLength (zeros-length (2 * n)))
 
-  lent : lengths ≡ Passed → Sizes n (length a) (length (p .t)) (length w)
-  lent = all-lent asked (length a) (length (p .t)) (length (p .q)) (length w)
-
   right : Right lengths asked (r .budget) a
   unfolding matrixChecks
   right =
