@@ -55,9 +55,7 @@ fn put(buf: &mut [u8], done: usize, piece: &[u8], n: usize)
     requires { ⌜ n ≤ length (now piece) ⌝ }
     ensures { λ _. ⌜ now (buf .exit) ≡ putBehind done (now (buf .entry)) (now (piece .entry)) n ⌝ }
 {
-    for i in 0..n {
-        buf[done + i] = piece[i];
-    }
+    bytes::copy(&piece[..n], &mut buf[done..]);
 }
 
 // A read is lent a piece and not `buf`, and the bytes that its answer counts are copied: what else it does to the piece

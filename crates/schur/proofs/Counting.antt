@@ -17,7 +17,7 @@ use Rattle.window.specs.declared.Window.{Window}
 use Rattle.pass.specs.declared.setting.Setting.{Setting}
 use Rattle.pass.specs.Pair.{Pair}
 use Rattle.schur.specs.declared.run.Ran.{Ran}
-use Rattle.schur.specs.declared.run.Ran.the-variants.{Ended, BudgetReached, Unfit}
+use Rattle.schur.specs.declared.run.Ran.the-variants.{Ended, BudgetReached}
 use Rattle.schur.specs.Run.{Running, passesAt, closed, delimiting, after, turnTwo, turnMore, turnOf, runFrom, opened, openedOf, Left}
 use Rattle.schur.specs.Run.{answered, ranOf, largestBudget, countOf}
 use Rattle.schur.proofs.RunAnswers.{answered-reached, answered-ended, RunFits}
@@ -140,26 +140,9 @@ module _ (asked : Setting) (budget : ℕ) (p : Pair) (w : List Float) (fits : Ru
       tells-cond (eqb (asked .order) 1) (ended (λ l. omega arith) refl)
       (tells-cond (eqb (asked .order) 2) (ended (λ l. omega arith) refl) (answered-tells budget (largest (p .t)) _ counted))
 
-  -- ended: with the count, which is below every budget that is not 0; and the other way round
-  pub ended-count : {c : ℕ} → answer ≡ Ended c → c ≡ count
-  ended-count e = elim ran-tells [ ended _ h ↦ cc | reached _ _ h ↦ cc ]
-
-  pub ended-below : {c : ℕ} → 1 ≤ budget → answer ≡ Ended c → c < budget
-  ended-below l e = elim ran-tells [ ended k _ ↦ omega (arith, ended-count e, k l) | reached _ _ h ↦ (let z : _≡_ {A = ℕ} 0 1 = cc in omega arith) ]
-
+  -- below the budget it ends, with the count
   pub below-ended : count < budget → answer ≡ Ended count
   below-ended l = elim ran-tells [ ended _ h ↦ h | reached _ e _ ↦ absurd (omega arith) ]
-
-  -- the budget reached: the count is the budget or more; and the other way round
-  pub reached-count : {v : Window} → answer ≡ BudgetReached v → budget ≤ count
-  reached-count e = elim ran-tells [ ended _ h ↦ (let z : _≡_ {A = ℕ} 0 1 = cc in absurd (omega arith)) | reached _ h _ ↦ h ]
-
-  pub count-reached : 1 ≤ budget → budget ≤ count → (v : Window) × (answer ≡ BudgetReached v)
-  count-reached l e = elim ran-tells [ ended k _ ↦ absurd (omega (arith, k l)) | reached v _ h ↦ (v, h) ]
-
-  -- that an argument does not fit is never the answer
-  pub ran-fit : answer ≡ Unfit → ⊥
-  ran-fit e = elim ran-tells [ ended _ h ↦ (let z : _≡_ {A = ℕ} 0 1 = cc in omega arith) | reached _ _ h ↦ (let z : _≡_ {A = ℕ} 0 1 = cc in omega arith) ]
 
   -- A budget above the count is not felt: the run is that with the largest budget.
   pub budget-not-felt : count < budget → ranOf asked budget p w ≡ ranOf asked largestBudget p w

@@ -46,8 +46,9 @@ extern "C" {
 
 /* T of a matrix, and Q unless `wanted` is 0: then q is not looked at. `tolerance` is the pattern of a
  * double from 0 to below 1 (manulsek_pattern), 2^-52 for most uses. The answer is the pass count, which is
- * below the budget, or a refusal with 1 to 9. An accepted T is zero two or more places below its diagonal,
- * and of two neighbours just below it at least one is zero; it is the same whether Q is wanted or not. */
+ * below the budget, or a refusal with 1 to 9. An accepted T is finite, and zero two or more places below its
+ * diagonal, and of two neighbours just below it at least one is zero; it is the same whether Q is wanted or
+ * not. An accepted Q is finite. What t and q held before makes no difference. */
 uint64_t manulsek_decompose(size_t order, const uint8_t *matrix, size_t matrix_len,
                             uint64_t tolerance, uint64_t budget, uint32_t wanted,
                             uint8_t *t, size_t t_len, uint8_t *q, size_t q_len);

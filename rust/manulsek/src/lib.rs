@@ -52,8 +52,9 @@ pub const NAN: f64 = f64::from_bits(0x7ff8_0000_0000_0000);
 ///
 /// The matrix, t, and q if there is one, have `order * order` numbers. The tolerance is from 0 to below
 /// 1, `f64::EPSILON` for most uses; the budget is from 1 to [`MAX_BUDGET`], and the pass count of an
-/// accepted call is below it. An accepted t is zero two or more places below its diagonal, and of two
-/// neighbours just below it at least one is zero; it is the same whether q is asked for or not.
+/// accepted call is below it. An accepted t is finite, and zero two or more places below its diagonal, and
+/// of two neighbours just below it at least one is zero; it is the same whether q is asked for or not. An
+/// accepted q is finite. What t and q held before makes no difference.
 ///
 /// Refused with 1 to 6, nothing was touched. Refused with 7, 8 or 9, every number of t and q is [`NAN`].
 #[inline]
