@@ -11,6 +11,8 @@ const VARIABLE: &str = "MANULSEK_LIB_DIR";
 
 const NAME: &str = "libdoor.a";
 
+const WRITTEN: &str = "`rt staticlib door`, in the root of Manulsek's repository, writes it to target/staticlib there.";
+
 /// Where the archive is if the variable is not set, seen from this package's folder, where cargo runs this script.
 const FOLDER: &str = "../../target/staticlib";
 
@@ -34,8 +36,7 @@ fn main() {
         println!("cargo:rustc-link-search=native={}", folder.display());
     } else if let Some(folder) = named {
         fail(&format!(
-            "{VARIABLE} is {folder:?}, and no file {NAME} is there. {}",
-            remedy()
+            "{VARIABLE} is {folder:?}, and {NAME} is not there. {WRITTEN}"
         ));
     } else {
         warn();
@@ -66,17 +67,11 @@ fn warn() {
     let root = fs::canonicalize("../..").unwrap_or_else(|_| PathBuf::from("../.."));
     let folder = root.join("target/staticlib");
     println!(
-        "cargo:warning={NAME} is not in {}, so nothing can be linked.",
+        "cargo:warning={NAME} is not in {}: nothing can be linked.",
         folder.display()
     );
-    println!("cargo:warning={}", remedy());
-}
-
-fn remedy() -> String {
-    format!(
-        "`rt staticlib door`, run in the root of Manulsek's repository, writes target/staticlib/{NAME} there; \
-         {VARIABLE}, set to that folder's full path, makes it known to a package that stands elsewhere."
-    )
+    println!("cargo:warning={WRITTEN}");
+    println!("cargo:warning=A package that stands elsewhere (git = \"..\") finds it by {VARIABLE}, a full path.");
 }
 
 fn fail(why: &str) -> ! {
