@@ -8,12 +8,13 @@
  *
  * Exit status: 0, the roots are printed. Else nothing is printed but the reason, on standard error:
  * 1, a word is no number that a double can hold; 2, there are more than 64 numbers; 3, the library
- * refused; 4, the roots could not be written (some of them may have been). */
+ * refused, with a number that manulsek.h explains; 4, the roots could not be written (some may have been). */
 #include <ctype.h>
 #include <errno.h>
 #include <float.h>
 #include <stdio.h>
 #include <stdlib.h>
+#include <string.h>
 
 #include "manulsek.h"
 

@@ -4,7 +4,7 @@
 //!
 //! Exit status: 0, the eigenvalues are printed. Else nothing is printed but the reason, on standard error:
 //! 1, the input is no square of numbers that an f64 can hold; 2, there is an argument; 3, the library refused;
-//! 4, the eigenvalues could not be written (some of them may have been).
+//! 4, the eigenvalues could not be written (some may have been).
 
 use manulsek::{Refusal, Schur};
 use std::env;

@@ -13,9 +13,10 @@
  * each needs up to 72 KiB of stack.
  *
  * Row order: C and NumPy have a matrix row by row. Lent like that it is read as its transpose, and nothing says
- * so. In exact arithmetic the transpose has the same eigenvalues; here their last bits may differ, and so may
- * their order, the pass count, and whether and why the call is refused. T and Q are others. One line turns rows
- * into columns, and a T or Q, which are column by column too, into rows:
+ * so. In exact arithmetic the transpose has the same eigenvalues. Here rounding may change them, most often in
+ * the last bits, and by far more where eigenvalues meet; their order, the pass count, and whether and why the call
+ * is refused may differ too. T and Q are others, unless the matrix is symmetric. One line turns rows into columns,
+ * and a T or Q, which are column by column too, into rows:
  *
  *     for (size_t k = 0; k < n * n; k++) columns[k] = rows[k % n * n + k / n];
  *
@@ -58,8 +59,9 @@ extern "C" {
  * not. An accepted Q is finite. What t and q held before makes no difference.
  *
  * That is what an acceptance promises. That Q T Q' is near the matrix, and Q near an orthogonal one, it does not:
- * that was measured, not proved. On usual matrices both are off by a small multiple of n * 2^-52, the first one
- * times the matrix's norm (docs/ACCURACY.md has the figures). It is false of some that are accepted. We know of:
+ * that was measured, not proved. On usual matrices, which take few passes, both are off by a small multiple of
+ * n * 2^-52, the first one times the matrix's norm (docs/ACCURACY.md has the figures). It is false of some that
+ * are accepted. We know of:
  *   - order 2, which is not scaled: products of large entries overflow, and those of small ones vanish or lose
  *     digits. Rows (1 0), (2^700 1) give zeros for T and Q;
  *   - from order 3 on, the part of a column below the diagonal, in the matrix or in what the reduction has made

@@ -1,7 +1,8 @@
 //! The real Schur decomposition of nalgebra 0.35.0, bit for bit, from a library in which every function
-//! is proved: for f64 matrices of order 1 to 64, with T, Q, the pass count and the eigenvalues, and with
-//! a refusal by number and place for every input that has no good answer. No call panics in the library,
-//! none goes on for ever, and a missing number never becomes a zero.
+//! is proved: for f64 matrices of order 1 to 64, with T, Q, the pass count and the eigenvalues, or with a
+//! refusal by number and place. No call panics in the library, none goes on for ever, and a missing number
+//! never becomes a zero. What is accepted may still be far from the matrix: see
+//! [What an acceptance promises](#what-an-acceptance-promises).
 //!
 //! Matrices are lists of `order * order` numbers, column by column, which is not how C and NumPy have them: see
 //! [Row order](#row-order). Rows and columns count from 0.
@@ -36,8 +37,9 @@
 //!
 //! A matrix of order n is read column by column: row r, column c stands at `r + c * n`. C and NumPy have it row by
 //! row. Lent like that it is read as its transpose, and nothing says so. In exact arithmetic the transpose has the
-//! same eigenvalues; here their last bits may differ, and so may their order, the pass count, and whether and why
-//! the call is refused. T and Q are others. One line turns rows into columns:
+//! same eigenvalues. Here rounding may change them, most often in the last bits, and by far more where eigenvalues
+//! meet; their order, the pass count, and whether and why the call is refused may differ too. T and Q are others,
+//! unless the matrix is symmetric. One line turns rows into columns:
 //!
 //! ```
 //! use manulsek::{Refusal, Schur};
@@ -66,9 +68,9 @@
 //!
 //! It is proved that an accepted T is finite and has the shape that [`decompose`] tells, that Q is finite, and that
 //! the pass count is below the budget. That Q T Q' is near the matrix, and Q near an orthogonal one, is **not**
-//! promised. It was measured, not proved: on usual matrices both are off by a small multiple of `n * 2^-52`, the
-//! first one times the matrix's norm, and the repository's `docs/ACCURACY.md` has the figures. It is false of some
-//! matrices that are accepted. We know of these:
+//! promised. It was measured, not proved: on usual matrices, which take few passes, both are off by a small multiple
+//! of `n * 2^-52`, the first one times the matrix's norm, and the repository's `docs/ACCURACY.md` has the figures. It
+//! is false of some matrices that are accepted. We know of these:
 //!
 //! - Order 2 is not scaled, so products of large entries overflow, and those of small ones vanish or lose digits.
 //!   Rows (1 0), (2^700 1) give zeros for T and Q. Rows (0 1e-200), (1e-200 0) give a T with the eigenvalues 0, 0.
@@ -78,7 +80,8 @@
 //! - The largest entry is near or below 2^-1022, where an f64 has fewer digits.
 //! - The tolerance is above 2^-52: larger entries are set to zero.
 //!
-//! Who relies on it multiplies Q T Q' and compares. The eigenvalues are those of T, and share its errors.
+//! Who relies on it multiplies Q T Q' and compares. The readers' eigenvalues are those of T, and share its errors;
+//! of those of the plain entry no more is promised.
 
 pub mod bytes;
 pub mod raw;

@@ -226,6 +226,12 @@ fn rows_that_are_not_turned() {
         .fold(0f64, |most, (x, y)| most.max((x - y).abs()));
     assert!(far <= 1e-13 && bits(&right) != bits(&wrong), "{far:e}");
 
+    // Where eigenvalues meet, half the digits are gone.
+    let jordan = [1.0, 1.0, 0.0, 0.0, 1.0, 1.0, 0.0, 0.0, 1.0];
+    let values = |entries: &[f64]| run(entries, 100).unwrap().eigenvalues().unwrap();
+    assert_eq!(values(&columns(&jordan)), [1.0; 3]);
+    assert!(values(&jordan).iter().any(|x| (x - 1.0).abs() > 1e-9));
+
     let t = [2.0, 1.0, 0.0, 3.0];
     let (mut re, mut im) = ([7.0; 2], [7.0; 2]);
     assert_eq!(eigenvalues(2, &t, &mut re), Err(refusal(10, 0, 0)));
