@@ -71,7 +71,7 @@ fn warn() {
         folder.display()
     );
     println!("cargo:warning={WRITTEN}");
-    println!("cargo:warning=A package that stands elsewhere (git = \"..\") finds it by {VARIABLE}, a full path.");
+    println!("cargo:warning=Where manulsek comes by git = \"..\", set {VARIABLE} to that folder's full path.");
 }
 
 fn fail(why: &str) -> ! {

@@ -2,9 +2,10 @@
  *
  *     rt staticlib door
  *     cc -I rust/manulsek/include rust/manulsek/examples/roots.c target/staticlib/libdoor.a -o roots
- *     ./roots -8 12 -6      # x^3 - 6x^2 + 12x - 8, the constant first; the leading 1 is left out
+ *     ./roots -6 11 -6      # x^3 - 6x^2 + 11x - 6, the constant first; the leading 1 is left out
  *
- * Without numbers it takes x^3 - 2x^2 + x - 2, whose roots are 2, i and -i.
+ * Without numbers it takes x^3 - 2x^2 + x - 2, whose roots are 2, i and -i. Where roots meet, digits are lost:
+ * `./roots -8 12 -6`, which is (x - 2)^3, has five that are right.
  *
  * Exit status: 0, the roots are printed. Else nothing is printed but the reason, on standard error:
  * 1, a word is no number that a double can hold; 2, there are more than 64 numbers; 3, the library
