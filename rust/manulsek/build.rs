@@ -26,14 +26,13 @@ fn main() {
     let archive = Path::new(named.as_deref().unwrap_or(FOLDER)).join(NAME);
     // Without this line cargo would keep what was linked with an older archive.
     println!("cargo:rerun-if-changed={}", archive.display());
-    // Without the archive this line makes the compiler fail when it links, and only then.
-    println!("cargo:rustc-link-lib=static=door");
     if archive.is_file() {
         let folder = PathBuf::from(env::var_os("OUT_DIR").expect("cargo sets it"));
         if let Err(why) = fs::copy(&archive, folder.join(NAME)) {
             fail(&format!("{} cannot be copied: {why}.", archive.display()));
         }
         println!("cargo:rustc-link-search=native={}", folder.display());
+        println!("cargo:rustc-link-lib=static=door");
     } else if let Some(folder) = named {
         fail(&format!(
             "{VARIABLE} is {folder:?}, and {NAME} is not there. {WRITTEN}"
@@ -61,8 +60,10 @@ fn named() -> Option<String> {
     Some(folder)
 }
 
-/// Neither `cargo doc` nor `cargo check` links, so they go on without the archive. `cargo build` fails in the
-/// compiler; cargo then shows these lines, those of a package by `git = ".."` too.
+/// Neither `cargo doc` nor `cargo check` links, so they go on without the archive. `cargo build` has to fail: the
+/// compiler is told to link what is nowhere. It says so by that name, which has the remedy in it, since cargo
+/// keeps these lines to itself if it is told to be quiet (`-q`); else it shows them with the failure, those of
+/// a package by `git = ".."` too.
 fn warn() {
     let root = fs::canonicalize("../..").unwrap_or_else(|_| PathBuf::from("../.."));
     let folder = root.join("target/staticlib");
@@ -72,6 +73,7 @@ fn warn() {
     );
     println!("cargo:warning={WRITTEN}");
     println!("cargo:warning=Where manulsek comes by git = \"..\", set {VARIABLE} to that folder's full path.");
+    println!("cargo:rustc-link-lib=static=door (`rt staticlib door` writes it, {VARIABLE} names its folder)");
 }
 
 fn fail(why: &str) -> ! {
