@@ -28,9 +28,8 @@ fn repository() -> PathBuf {
 /// Whether cargo ends well there, and what it says.
 fn cargo(command: &str, root: &Path, variable: Option<&str>) -> (bool, String) {
     let mut cargo = Command::new(env!("CARGO"));
-    cargo
-        .args([command, "--offline"])
-        .current_dir(root.join("rust/manulsek"));
+    let words = command.split(' ').chain(["--offline"]);
+    cargo.args(words).current_dir(root.join("rust/manulsek"));
     cargo.arg("--target-dir").arg(root.join("built"));
     match variable {
         Some(folder) => cargo.env("MANULSEK_LIB_DIR", folder),
@@ -63,6 +62,11 @@ fn the_archive_is_looked_for_in_one_place() {
         "build",
         None,
         &[own_name, "`rt staticlib door`", "MANULSEK_LIB_DIR"],
+    );
+    fails(
+        "build -q",
+        None,
+        &["`rt staticlib door`", "MANULSEK_LIB_DIR"],
     );
     works("build", Some(ARCHIVE));
     fails("build", None, &[own_name]);
