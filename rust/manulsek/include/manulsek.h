@@ -12,6 +12,14 @@
  * is written must overlap no other. The functions keep nothing, and may be called from many threads;
  * each needs up to 72 KiB of stack.
  *
+ * Row order: C and NumPy have a matrix row by row. Lent like that it is read as its transpose, and nothing says
+ * so. In exact arithmetic the transpose has the same eigenvalues. Here rounding may change them, most often in
+ * the last bits, and by far more where eigenvalues meet; their order, the pass count, and whether and why the call
+ * is refused may differ too. T and Q are others, unless the matrix is symmetric. One line turns rows into columns,
+ * and a T or Q, which are column by column too, into rows:
+ *
+ *     for (size_t k = 0; k < n * n; k++) columns[k] = rows[k % n * n + k / n];
+ *
  * Every function takes every input and ends. It answers one number: below 2^32 the call was accepted;
  * else it was refused, and the answer is number * 2^32 + row * 2^16 + col. The four helpers at the end
  * take it apart. Checks run in the order of the numbers, and the first that fails is told:
@@ -48,24 +56,48 @@ extern "C" {
  * double from 0 to below 1 (manulsek_pattern), 2^-52 for most uses. The answer is the pass count, which is
  * below the budget, or a refusal with 1 to 9. An accepted T is finite, and zero two or more places below its
  * diagonal, and of two neighbours just below it at least one is zero; it is the same whether Q is wanted or
- * not. An accepted Q is finite. What t and q held before makes no difference. */
+ * not. An accepted Q is finite. What t and q held before makes no difference.
+ *
+ * That is what an acceptance promises. That Q T Q' is near the matrix, and Q near an orthogonal one, it does not:
+ * that was measured, not proved. On usual matrices, which take few passes, both are off by a small multiple of
+ * n * 2^-52, the first one times the matrix's norm (docs/ACCURACY.md has the figures). It is false of some that
+ * are accepted. We know of:
+ *   - order 2, which is not scaled: products of large entries overflow, and those of small ones vanish or lose
+ *     digits. Rows (1 0), (2^700 1) give zeros for T and Q;
+ *   - from order 3 on, the part of a column below the diagonal, in the matrix or in what the reduction has made
+ *     of it, that is not zero but so small beside the largest entry that its squares vanish. It may turn Q, and
+ *     does not turn T. Rows (1 1 0), (-2^-600 2 0), (0 0 3) give a T with 1 at row 0, column 1, where the matrix
+ *     has 1 and Q T Q' has -1;
+ *   - a largest entry near or below 2^-1022, where a double has fewer digits;
+ *   - a tolerance above 2^-52, by which larger entries are set to zero.
+ *
+ * The matrix is read, and T and Q are written, column by column. Rows are turned by
+ *     for (size_t k = 0; k < n * n; k++) columns[k] = rows[k % n * n + k / n]; */
 uint64_t manulsek_decompose(size_t order, const uint8_t *matrix, size_t matrix_len,
                             uint64_t tolerance, uint64_t budget, uint32_t wanted,
                             uint8_t *t, size_t t_len, uint8_t *q, size_t q_len);
 
 /* The real reader: the eigenvalues of a T, its diagonal. 0, or a refusal with 1, 2, 3, 6, 9 or 10. On an
- * accepted T it is 0 exactly if every entry just below the diagonal is zero, and else 10. */
+ * accepted T it is 0 exactly if every entry just below the diagonal is zero, and else 10. T is read column by
+ * column. Rows are turned by
+ *     for (size_t k = 0; k < n * n; k++) columns[k] = rows[k % n * n + k / n];
+ * Not turned, those of most T are refused: (2 1), (0 3) with 10, though its eigenvalues are 2 and 3. */
 uint64_t manulsek_eigenvalues(size_t order, const uint8_t *t, size_t t_len,
                               uint8_t *values, size_t values_len);
 
 /* The complex reader: real and imaginary parts of the eigenvalues of a T, a pair in two places one after
  * the other: first the one with the imaginary part above 0, then the one below 0; where the block's
- * discriminant is 0 both imaginary parts are +0. 0, or a refusal with 1, 2, 3, 6, 9, 11 or 8. */
+ * discriminant is 0 both imaginary parts are +0. 0, or a refusal with 1, 2, 3, 6, 9, 11 or 8. T is read column
+ * by column. Rows are turned by
+ *     for (size_t k = 0; k < n * n; k++) columns[k] = rows[k % n * n + k / n];
+ * Not turned, those of most T are refused: (2 1), (0 3) with 11. */
 uint64_t manulsek_complex_eigenvalues(size_t order, const uint8_t *t, size_t t_len,
                                       uint8_t *re, size_t re_len, uint8_t *im, size_t im_len);
 
 /* The plain entry: the eigenvalues of a matrix, if all are real, with the tolerance 2^-52 and the budget
- * 10000; at order 2 the larger first. 0, or a refusal with 1, 2, 3, 6 to 10. */
+ * 10000; at order 2 the larger first. 0, or a refusal with 1, 2, 3, 6 to 10. The matrix is read column by column.
+ * Rows are turned by
+ *     for (size_t k = 0; k < n * n; k++) columns[k] = rows[k % n * n + k / n]; */
 uint64_t manulsek_plain_eigenvalues(size_t order, const uint8_t *matrix, size_t matrix_len,
                                     uint8_t *values, size_t values_len);
 

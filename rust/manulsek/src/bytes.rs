@@ -4,6 +4,11 @@
 //! A function answers one number: below 2^32 the call was accepted, and it is the pass count of the
 //! decomposition and 0 of the others; else it is a refusal, which `crate::Refusal::of` takes apart.
 //!
+//! `matrix`, `t` and `q` are column by column, eight bytes for each number. Rows of numbers, as C and NumPy have
+//! them, are turned by
+//! `let columns: Vec<u8> = (0..n * n).flat_map(|k| rows[k % n * n + k / n].to_le_bytes()).collect();`
+//! Not turned, they are [read as the transpose](crate#row-order), and nothing says so.
+//!
 //! The calls are safe for one reason: the slices outlast the call, Rust sees to it that one that is
 //! written overlaps no other, and the functions, which take every input, are proved to stay within
 //! their slices.
@@ -14,7 +19,8 @@ use std::mem::size_of_val;
 // The library's order of bytes, and the width of its lengths.
 const _: () = assert!(cfg!(target_endian = "little") && cfg!(target_pointer_width = "64"));
 
-/// `wanted` is 0 for "no Q"; then q is not looked at, and may be of any length.
+/// As [`crate::decompose`]: the matrix column by column, rows turned by the [module](self)'s line. `wanted` is 0
+/// for "no Q"; then q is not looked at, and may be of any length.
 #[inline]
 pub fn decompose(
     order: usize,
@@ -32,6 +38,7 @@ pub fn decompose(
     unsafe { raw::manulsek_decompose(order, m, mn, tolerance, budget, wanted, t, tn, q, qn) }
 }
 
+/// As [`crate::eigenvalues`]: T column by column, rows turned by the [module](self)'s line.
 #[inline]
 pub fn eigenvalues(order: usize, t: &[u8], values: &mut [u8]) -> u64 {
     let (at, length) = (values.as_mut_ptr(), values.len());
@@ -39,6 +46,7 @@ pub fn eigenvalues(order: usize, t: &[u8], values: &mut [u8]) -> u64 {
     unsafe { raw::manulsek_eigenvalues(order, t.as_ptr(), t.len(), at, length) }
 }
 
+/// As [`crate::complex_eigenvalues`]: T column by column, rows turned by the [module](self)'s line.
 #[inline]
 pub fn complex_eigenvalues(order: usize, t: &[u8], re: &mut [u8], im: &mut [u8]) -> u64 {
     let (rn, jn) = (re.len(), im.len());
@@ -47,6 +55,7 @@ pub fn complex_eigenvalues(order: usize, t: &[u8], re: &mut [u8], im: &mut [u8])
     unsafe { raw::manulsek_complex_eigenvalues(order, t.as_ptr(), t.len(), re, rn, im, jn) }
 }
 
+/// As [`crate::plain_eigenvalues`]: the matrix column by column, rows turned by the [module](self)'s line.
 #[inline]
 pub fn plain_eigenvalues(order: usize, matrix: &[u8], values: &mut [u8]) -> u64 {
     let (m, mn) = (matrix.as_ptr(), matrix.len());
@@ -54,6 +63,7 @@ pub fn plain_eigenvalues(order: usize, matrix: &[u8], values: &mut [u8]) -> u64 
     unsafe { raw::manulsek_plain_eigenvalues(order, m, mn, values.as_mut_ptr(), values.len()) }
 }
 
+/// As [`crate::sqrt`], from pattern to pattern.
 #[inline]
 pub fn sqrt(pattern: u64) -> u64 {
     // SAFETY: a number in, a number out.

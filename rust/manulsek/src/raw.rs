@@ -3,6 +3,10 @@
 //! Nothing checks these declarations against the library. A slice is a pointer and a length in
 //! elements, here bytes; an f64 is its pattern, as a number or as eight bytes, the lowest first.
 //!
+//! Matrices are column by column. Rows of numbers, as C and NumPy have them, are turned by
+//! `let columns: Vec<u8> = (0..n * n).flat_map(|k| rows[k % n * n + k / n].to_le_bytes()).collect();`
+//! Not turned, they are [read as the transpose](crate#row-order), and nothing says so.
+//!
 //! Every function takes every input and ends. What a caller has to see to: each slice is memory of its
 //! length, and one that is written overlaps no other.
 

@@ -2,7 +2,10 @@
 
 use crate::{complex_eigenvalues, decompose, eigenvalues, Refusal, MAX_ORDER};
 
-/// T, Q and the pass count of a matrix: Q T Q' is the matrix, but for rounding.
+/// T, Q and the pass count of a matrix.
+///
+/// Q T Q' is near the matrix for most, but that is measured and not proved, and it is false of some matrices that are
+/// accepted: see [what an acceptance promises](crate#what-an-acceptance-promises).
 #[derive(Clone, Debug)]
 pub struct Schur {
     order: usize,
@@ -12,7 +15,12 @@ pub struct Schur {
 }
 
 impl Schur {
-    /// Decomposes the matrix with these entries, column by column. See [`decompose`].
+    /// Decomposes the matrix with these entries, column by column. See [`decompose`], which says what is promised of T
+    /// and Q, and what is not.
+    ///
+    /// Rows, as C and NumPy have them, are turned by
+    /// `let columns: Vec<f64> = (0..n * n).map(|k| rows[k % n * n + k / n]).collect();`
+    /// Not turned, they are [read as the transpose](crate#row-order).
     pub fn try_new(
         order: usize,
         entries: &[f64],
@@ -35,13 +43,13 @@ impl Schur {
         self.order
     }
 
-    /// Column by column: zero two or more places below its diagonal, and of two neighbours just below it
-    /// at least one is zero.
+    /// T, column by column: zero two or more places below its diagonal, and of two neighbours just below it
+    /// at least one is zero. `(0..n * n).map(|k| t[k % n * n + k / n])` has it row by row, as C and NumPy would.
     pub fn t(&self) -> &[f64] {
         &self.t
     }
 
-    /// Column by column.
+    /// Q, column by column. `(0..n * n).map(|k| q[k % n * n + k / n])` has it row by row, as C and NumPy would.
     pub fn q(&self) -> &[f64] {
         &self.q
     }

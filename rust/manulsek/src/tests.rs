@@ -119,6 +119,148 @@ fn l_m_order_2_is_not_scaled() {
     assert_eq!(bits(zeros.t()), [0; 4]);
 }
 
+/// The matrix with these rows.
+fn columns(rows: &[f64]) -> Vec<f64> {
+    let n = order(rows);
+    (0..n * n).map(|k| rows[k % n * n + k / n]).collect()
+}
+
+/// How far Q T Q' is from the matrix, and Q' Q from the identity: the largest of the entries' distances.
+fn apart(matrix: &[f64], schur: &Schur) -> (f64, f64) {
+    let (n, t, q) = (schur.order(), schur.t(), schur.q());
+    let (mut far, mut skew) = (0f64, 0f64);
+    for (row, col) in (0..n * n).map(|k| (k % n, k / n)) {
+        let (mut product, mut square) = (0.0, 0.0);
+        for i in 0..n {
+            square += q[i + row * n] * q[i + col * n];
+            product += (0..n)
+                .map(|j| q[row + i * n] * t[i + j * n] * q[col + j * n])
+                .sum::<f64>();
+        }
+        far = far.max((matrix[row + col * n] - product).abs());
+        skew = skew.max((square - f64::from(row == col)).abs());
+    }
+    (far, skew)
+}
+
+/// What is not promised, on matrices for which it holds. The bound is wide; docs/ACCURACY.md has the figures.
+#[test]
+fn q_t_q_is_near_a_usual_matrix() {
+    let mut usual = vec![
+        columns(&[0.0, -1.0, 5.0, 1.0, 0.0, 6.0, 0.0, 0.0, 2.0]),
+        columns(&[1.0, 2.0, 3.0, 4.0, 5.0, 6.0, 7.0, 8.0, 10.0]),
+        columns(&[1.0, 2.0, 3.0, 4.0]),
+    ];
+    // Entries from -1 to 1 without a pattern that the eye sees.
+    usual.extend([4, 8, 16].map(|n: i32| {
+        (0..n * n)
+            .map(|k| f64::from(k * k % 101 - 50) / 50.0)
+            .collect()
+    }));
+    for matrix in usual {
+        let schur = run(&matrix, 1000).unwrap();
+        let largest = matrix.iter().fold(0f64, |most, x| most.max(x.abs()));
+        let (far, skew) = apart(&matrix, &schur);
+        assert!(
+            far <= 1e-13 * largest && skew <= 1e-13,
+            "{far:e} {skew:e} {matrix:?}"
+        );
+    }
+}
+
+/// And on matrices that are accepted though it does not hold: those that the package's documentation names.
+#[test]
+fn q_t_q_is_far_from_some_that_are_accepted() {
+    // Item m: zeros for T and Q, so Q is far from an orthogonal matrix too.
+    let large = 2f64.powi(700);
+    let matrix = columns(&[1.0, 0.0, large, 1.0]);
+    let schur = run(&matrix, 1).unwrap();
+    assert_eq!((schur.t(), schur.q()), (&[0.0; 4][..], &[0.0; 4][..]));
+    assert_eq!(apart(&matrix, &schur), (large, 1.0));
+
+    // Products vanish: the eigenvalues are 1e-200 and -1e-200.
+    let matrix = columns(&[0.0, 1e-200, 1e-200, 0.0]);
+    let schur = run(&matrix, 1).unwrap();
+    assert_eq!(schur.eigenvalues().unwrap(), [0.0, 0.0]);
+    assert_eq!(apart(&matrix, &schur), (1e-200, 0.0));
+
+    // A column whose squares vanish turns Q and not T. With the other sign it does not turn Q.
+    let small = 2f64.powi(-600);
+    let matrix = columns(&[1.0, 1.0, 0.0, -small, 2.0, 0.0, 0.0, 0.0, 3.0]);
+    let schur = run(&matrix, 1).unwrap();
+    assert_eq!(
+        schur.t(),
+        columns(&[1.0, 1.0, 0.0, 0.0, 2.0, 0.0, 0.0, 0.0, 3.0])
+    );
+    assert_eq!(
+        schur.q(),
+        columns(&[1.0, 0.0, 0.0, 0.0, -1.0, 0.0, 0.0, 0.0, -1.0])
+    );
+    assert_eq!(apart(&matrix, &schur), (2.0, 0.0));
+    let matrix = columns(&[1.0, 1.0, 0.0, small, 2.0, 0.0, 0.0, 0.0, 3.0]);
+    assert_eq!(apart(&matrix, &run(&matrix, 1).unwrap()), (small, 0.0));
+
+    // The smallest numbers that there are have one digit: two eigenvalues, 0.38 and 2.62 of them, become 0 and 3.
+    let one = f64::from_bits(1);
+    let matrix = columns(&[one, one, 0.0, one, 2.0 * one, 0.0, 0.0, 0.0, one]);
+    let schur = run(&matrix, 1).unwrap();
+    assert_eq!(schur.eigenvalues().unwrap(), [0.0, 3.0 * one, one]);
+
+    // A large tolerance.
+    let matrix = columns(&[1.0, 2.0, 3.0, 4.0, 5.0, 6.0, 7.0, 8.0, 10.0]);
+    let (far, skew) = apart(&matrix, &Schur::try_new(3, &matrix, 0.5, 1000).unwrap());
+    assert!(far > 0.1 && skew <= 1e-13, "{far:e} {skew:e}");
+}
+
+/// Rows that are not turned are read as the transpose: another T, and another answer of the readers.
+#[test]
+fn rows_that_are_not_turned() {
+    let rows = [1.0, 2.0, 3.0, 4.0, 5.0, 6.0, 7.0, 8.0, 10.0];
+    let (right, wrong) = (run(&columns(&rows), 100).unwrap(), run(&rows, 100).unwrap());
+    assert_ne!(bits(right.t()), bits(wrong.t()));
+    assert_ne!(bits(right.q()), bits(wrong.q()));
+    let (right, wrong) = (right.eigenvalues().unwrap(), wrong.eigenvalues().unwrap());
+    let far = right
+        .iter()
+        .zip(&wrong)
+        .fold(0f64, |most, (x, y)| most.max((x - y).abs()));
+    assert!(far <= 1e-13 && bits(&right) != bits(&wrong), "{far:e}");
+
+    // Where eigenvalues meet, half the digits are gone.
+    let jordan = [1.0, 1.0, 0.0, 0.0, 1.0, 1.0, 0.0, 0.0, 1.0];
+    let values = |entries: &[f64]| run(entries, 100).unwrap().eigenvalues().unwrap();
+    assert_eq!(values(&columns(&jordan)), [1.0; 3]);
+    assert!(values(&jordan).iter().any(|x| (x - 1.0).abs() > 1e-9));
+
+    let t = [2.0, 1.0, 0.0, 3.0];
+    let (mut re, mut im) = ([7.0; 2], [7.0; 2]);
+    assert_eq!(eigenvalues(2, &t, &mut re), Err(refusal(10, 0, 0)));
+    assert_eq!(
+        complex_eigenvalues(2, &t, &mut re, &mut im),
+        Err(refusal(11, 0, 0))
+    );
+    assert_eq!(eigenvalues(2, &columns(&t), &mut re), Ok(()));
+    assert_eq!(re, [2.0, 3.0]);
+
+    // The matrix of docs/DIFFERENCES.md that is refused with 9, and its transpose, which is not.
+    let mut spoiled = [0.0; 9];
+    (spoiled[3], spoiled[4], spoiled[5]) = (2f64.powi(-521), 1.0, -1.0);
+    (spoiled[7], spoiled[8]) = (2f64.powi(-47), 2f64.powi(-506));
+    let answer = |entries: &[f64]| Schur::try_new(3, entries, 0.0, 1000).map(|_| ());
+    assert_eq!(answer(&columns(&spoiled)), Err(refusal(9, 2, 0)));
+    assert_eq!(answer(&spoiled), Ok(()));
+}
+
+/// The line of `bytes` and `raw`: the bytes of the columns.
+#[test]
+fn rows_become_bytes() {
+    let (n, rows) = (2, [1.0, 2.0, 3.0, -0.0f64]);
+    let turned: Vec<u8> = (0..n * n)
+        .flat_map(|k| rows[k % n * n + k / n].to_le_bytes())
+        .collect();
+    assert_eq!(turned, bytes::of(&[1.0, 3.0, 2.0, -0.0]));
+}
+
 #[test]
 fn n_a_spoiled_shape() {
     let mut t = [0.0; 9];

@@ -1,9 +1,12 @@
-//! That `include/manulsek.h` and `src/raw.rs` declare the same functions, and that the header is good C
-//! and C++.
+//! That `include/manulsek.h` and `src/raw.rs` declare the same functions, that the header is good C and C++,
+//! and that header and package say at each entry how rows are turned.
 
+mod c;
+
+use c::{built, compilers, place, run};
 use manulsek::Schur;
-use std::path::{Path, PathBuf};
-use std::process::{Command, Output};
+use std::fs;
+use std::process::Command;
 
 const HEADER: &str = include_str!("../include/manulsek.h");
 const RAW: &str = include_str!("../src/raw.rs");
@@ -76,69 +79,85 @@ fn header_and_raw_declare_the_same() {
     assert_eq!(of_c().len(), 5);
 }
 
-/// The compilers that are there; tests run in the package's folder.
-fn compilers() -> Vec<&'static str> {
-    let there = |name: &&str| Command::new(name).arg("--version").output().is_ok();
-    let found: Vec<&str> = ["gcc", "clang"].into_iter().filter(there).collect();
-    if found.is_empty() {
-        println!("skipped: there is neither gcc nor clang");
-    }
-    found
+/// The line that turns rows, in C and in Rust.
+const IN_C: &str = "for (size_t k = 0; k < n * n; k++) columns[k] = rows[k % n * n + k / n];";
+const IN_RUST: &str =
+    "let columns: Vec<f64> = (0..n * n).map(|k| rows[k % n * n + k / n]).collect();";
+
+/// The functions that take a matrix or a T, by their names, each with what is said just before it.
+fn entries<'a>(text: &'a str, function: &str) -> Vec<(&'a str, &'a str)> {
+    let entry = |(at, _): (usize, &str)| {
+        let (name, rest) = cut(&text[at + function.len()..], "(");
+        let arguments = cut(rest, ")").0;
+        let takes = |word: &&str| arguments.contains(*word);
+        let wanted = ["matrix", "entries", "*t,", "t: &["].iter().any(takes);
+        let from = text[..at].rfind("\n\n").expect("an empty line before it");
+        wanted.then_some((name, &text[from..at]))
+    };
+    text.match_indices(function).filter_map(entry).collect()
 }
 
-fn built(name: &str) -> PathBuf {
-    Path::new(env!("CARGO_TARGET_TMPDIR")).join(name)
-}
-
-fn run(command: &mut Command) -> Output {
-    let output = command.output().expect("it starts");
-    let said = String::from_utf8_lossy(&output.stderr);
-    assert!(output.status.success(), "{command:?}\n{said}");
-    output
-}
-
-/// The example in C has the roots that Rust has, bit for bit.
+/// Each says how rows are turned, by the line that is run below and in the package's documentation.
 #[test]
-fn the_example_in_c_runs() {
-    // x^4 - 3x^3 + 5x^2 - 7x + 11, which needs some passes.
-    let coefficients = [11.0, -7.0, 5.0, -3.0];
-    let mut matrix = [0.0; 16];
-    for row in 0..4 {
-        matrix[row + 12] = -coefficients[row];
-        if row > 0 {
-            matrix[row + (row - 1) * 4] = 1.0;
+fn each_entry_turns_rows() {
+    let (lib, schur) = (
+        include_str!("../src/lib.rs"),
+        include_str!("../src/schur.rs"),
+    );
+    let all = [
+        (entries(HEADER, "\nuint64_t "), IN_C, 4),
+        (entries(lib, "\npub fn "), IN_RUST, 4),
+        (entries(schur, "\n    pub fn "), IN_RUST, 1),
+    ];
+    for (entries, line, count) in all {
+        assert_eq!(entries.len(), count, "{entries:?}");
+        for (name, said) in entries {
+            assert!(said.contains(line), "{name}: {said}");
         }
     }
-    let schur = Schur::try_new(4, &matrix, f64::EPSILON, 1000).unwrap();
-    assert!(schur.passes() > 0);
-    let mut right = format!("passes {}\n", schur.passes());
-    for (re, im) in schur.complex_eigenvalues().unwrap() {
-        right += &format!("{:016x} {:016x}\n", re.to_bits(), im.to_bits());
-    }
+    assert!(cut(HEADER, "#ifndef").0.contains(IN_C));
+    assert!(lib.contains(&format!("//! {IN_RUST}\n")));
+}
+
+/// That line in C makes of rows what Rust makes of columns, bit for bit; rows as they are make another T.
+#[test]
+fn the_line_in_c_turns_rows() {
+    let program = r#"
+#include <float.h>
+#include <stdio.h>
+#include "manulsek.h"
+
+static const double rows[9] = {1, 2, 3, 4, 5, 6, 7, 8, 10};
+static double columns[9], t[9];
+
+static int show(const double *matrix) {
+    uint64_t answer = manulsek_decompose(3, (const uint8_t *)matrix, sizeof t, manulsek_pattern(DBL_EPSILON),
+                                         1000, 0, (uint8_t *)t, sizeof t, NULL, 0);
+    for (size_t k = 0; k < 9; k++) printf("%016llx ", (unsigned long long)manulsek_pattern(t[k]));
+    puts("");
+    return manulsek_accepted(answer);
+}
+
+int main(void) {
+    size_t n = 3;
+    LINE
+    return show(columns) && show(rows) ? 0 : 1;
+}
+"#;
+    let source = place("turned.c");
+    fs::write(&source, program.replace("LINE", IN_C)).unwrap();
+    let rows = [1.0, 2.0, 3.0, 4.0, 5.0, 6.0, 7.0, 8.0, 10.0];
+    let columns = [1.0, 4.0, 7.0, 2.0, 5.0, 8.0, 3.0, 6.0, 10.0];
+    let shown = |matrix: &[f64]| {
+        let schur = Schur::try_new(3, matrix, f64::EPSILON, 1000).unwrap();
+        let words = schur.t().iter().map(|x| format!("{:016x} ", x.to_bits()));
+        words.collect::<String>() + "\n"
+    };
+    assert_ne!(shown(&columns), shown(&rows));
     for compiler in compilers() {
-        let program = built(&format!("roots-{compiler}"));
-        run(Command::new(compiler)
-            .args([
-                "-std=c99",
-                "-pedantic",
-                "-Wall",
-                "-Wextra",
-                "-Werror",
-                "-O1",
-            ])
-            .args([
-                "-Iinclude",
-                "examples/roots.c",
-                "../../target/staticlib/libdoor.a",
-            ])
-            .arg("-o")
-            .arg(&program));
-        let output = run(Command::new(program).args(coefficients.map(|x| x.to_string())));
+        let output = run(&mut Command::new(built(compiler, &source)));
         let said = String::from_utf8(output.stdout).unwrap();
-        // Behind two blanks a line has the numbers in decimal.
-        let lines = said.lines().map(|line| line.split("  ").next().unwrap());
-        let patterns: String = lines.map(|line| format!("{line}\n")).collect();
-        assert_eq!(patterns, right, "{compiler}");
+        assert_eq!(said, shown(&columns) + &shown(&rows), "{compiler}");
     }
 }
 
