@@ -177,6 +177,14 @@ mod tests {
         // Item m: T is all zeros.
         let (t, _) = schur(2, &[1.0, large, 0.0, 1.0], TOLERANCE, 1).unwrap();
         assert_eq!(t, [0.0; 4]);
+        // Products of two small numbers vanish: the eigenvalues are 1e-200 and -1e-200.
+        let (t, _) = schur(2, &[0.0, 1e-200, 1e-200, 0.0], TOLERANCE, 1).unwrap();
+        assert_eq!((t[0], t[1], t[3]), (0.0, 0.0, 0.0));
+        // The smallest numbers have one digit: 0.38 and 2.62 of them become 0 and 3.
+        let one = f64::from_bits(1);
+        let entries = [one, one, 0.0, one, 2.0 * one, 0.0, 0.0, 0.0, one];
+        let (t, _) = schur(3, &entries, TOLERANCE, 10).unwrap();
+        assert_eq!([t[0], t[4], t[8]], [0.0, 3.0 * one, one]);
         // A column too small to see: Q's rows are turned by -1, and T is not.
         let entries = [1.0, -(2f64.powi(-600)), 0.0, 1.0, 2.0, 0.0, 0.0, 0.0, 3.0];
         let (t, q) = schur(3, &entries, TOLERANCE, 10).unwrap();
