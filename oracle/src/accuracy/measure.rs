@@ -297,16 +297,19 @@ mod tests {
         );
     }
 
-    /// A power of two changes no figure, up to where numbers overflow or lose digits.
+    /// A power of two changes no figure as long as A and T lose no digits by it, even where all is subnormal.
     #[test]
     fn sizes_make_no_difference() {
-        let (t, q) = (moved(&whole(), 4, 2f64.powi(-45)), halves());
-        let a = plain(&whole(), &q);
-        let right = Figures::of(N, &a, &t, &q);
-        for exponent in [-970, -600, -1, 1, 600, 1015] {
-            let size = power(exponent);
-            let scaled = |numbers: &[f64]| numbers.iter().map(|x| x * size).collect::<Vec<f64>>();
-            assert_eq!(Figures::of(N, &scaled(&a), &scaled(&t), &q), right);
+        let (a, t, q) = (
+            [41.0, -12.0, -12.0, 34.0],
+            [25.0, 0.0, 0.0, 50.0],
+            [0.6, 0.8, -0.8, 0.6],
+        );
+        let right = Figures::of(2, &a, &t, &q);
+        assert!((0.01..1.0).contains(&right.residual), "{right:?}");
+        for exponent in [-1074, -1000, -600, -1, 1, 600, 1017] {
+            let [a, t] = [a, t].map(|numbers| numbers.map(|x| x * power(exponent)));
+            assert_eq!(Figures::of(2, &a, &t, &q), right);
         }
         // Small entries beside the largest number are rounded, and that is not seen.
         let wide = [f64::MAX, 0.0, 1.0, 3.0];
