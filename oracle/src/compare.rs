@@ -24,7 +24,7 @@ use std::ops::RangeInclusive;
 use std::time::Instant;
 
 pub use case::{Case, TOLERANCES};
-pub use families::{one_in, FAMILIES};
+pub use families::{one_in, Family, FAMILIES};
 pub use faults::{Bases, Plan};
 pub use reached::{possible, Reached};
 pub use shapes::not_finite;

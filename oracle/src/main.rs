@@ -3,6 +3,7 @@
 //! `oracle/run COMMAND` builds what is needed and runs one command of the table below. The exit
 //! status is 0 if the two agree, 1 if a difference was found, 2 if the command could not be run.
 
+mod accuracy;
 mod bench;
 mod call;
 mod compare;
@@ -43,6 +44,7 @@ type Run = fn(&[String]) -> Result<usize, String>;
 
 /// Each command with its arguments. README.md says what it does.
 const COMMANDS: &[(&str, &str, Run)] = &[
+    ("accuracy", "[--count COUNT] [--seed HEX]", accuracy::run),
     (
         "bench",
         "[--count THOUSANDS] [--seed HEX] [--repeat TIMES]",
