@@ -64,10 +64,12 @@ extern "C" {
  * are accepted. We know of:
  *   - order 2, which is not scaled: products of large entries overflow, and those of small ones vanish or lose
  *     digits. Rows (1 0), (2^700 1) give zeros for T and Q;
+ *   - order 2, with an entry below the diagonal that is small beside the others. Rows (1 1), (2^-108 1) give a T
+ *     with -2^-108 at row 0, column 1, and lose the 1;
  *   - from order 3 on, the part of a column below the diagonal, in the matrix or in what the reduction has made
  *     of it, that is not zero but so small beside the largest entry that its squares vanish. It may turn Q, and
  *     does not turn T. Rows (1 1 0), (-2^-600 2 0), (0 0 3) give a T with 1 at row 0, column 1, where the matrix
- *     has 1 and Q T Q' has -1;
+ *     has 1 and Q T Q' has -1. The reduction may make such a column of plain entries;
  *   - a largest entry near or below 2^-1022, where a double has fewer digits;
  *   - a tolerance above 2^-52, by which larger entries are set to zero.
  *

@@ -74,9 +74,12 @@
 //!
 //! - Order 2 is not scaled, so products of large entries overflow, and those of small ones vanish or lose digits.
 //!   Rows (1 0), (2^700 1) give zeros for T and Q. Rows (0 1e-200), (1e-200 0) give a T with the eigenvalues 0, 0.
+//! - At order 2 an entry below the diagonal that is small beside the others is not set to 0 before it is looked at.
+//!   Rows (1 1), (2^-108 1) give a T with -2^-108 at row 0, column 1, and lose the 1.
 //! - From order 3 on, the part of a column below the diagonal, in the matrix or in what the reduction has made of it,
 //!   is not zero, but so small beside the largest entry that its squares vanish. It may turn Q, and does not turn T.
 //!   Rows (1 1 0), (-2^-600 2 0), (0 0 3) give a T with 1 at row 0, column 1, where the matrix has 1 and Q T Q' has -1.
+//!   The reduction may make such a column of plain entries: `docs/ACCURACY.md` has a matrix of order 6 of 0, 1 and -1.
 //! - The largest entry is near or below 2^-1022, where an f64 has fewer digits.
 //! - The tolerance is above 2^-52: larger entries are set to zero.
 //!

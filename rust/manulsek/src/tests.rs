@@ -184,6 +184,27 @@ fn q_t_q_is_far_from_some_that_are_accepted() {
     assert_eq!(schur.eigenvalues().unwrap(), [0.0, 0.0]);
     assert_eq!(apart(&matrix, &schur), (1e-200, 0.0));
 
+    // Order 2 is not delimited: the block is turned by a right angle, and its 1 is lost.
+    let small = 2f64.powi(-108);
+    let matrix = columns(&[1.0, 1.0, small, 1.0]);
+    let schur = run(&matrix, 1).unwrap();
+    assert_eq!(schur.t(), columns(&[1.0, -small, 0.0, 1.0]));
+    assert_eq!(apart(&matrix, &schur), (1.0, 0.0));
+
+    // The reduction makes a column whose squares vanish, of plain entries.
+    let mut matrix = [0.0; 36];
+    for (row, col, x) in [
+        (2, 0, 1.0),
+        (2, 2, 1.0),
+        (3, 5, -1.0),
+        (4, 3, 1.0),
+        (5, 1, 1.0),
+    ] {
+        matrix[row + 6 * col] = x;
+    }
+    let (far, skew) = apart(&matrix, &run(&matrix, 1000).unwrap());
+    assert!(far > 1.9 && skew <= 1e-13, "{far:e} {skew:e}");
+
     // A column whose squares vanish turns Q and not T. With the other sign it does not turn Q.
     let small = 2f64.powi(-600);
     let matrix = columns(&[1.0, 1.0, 0.0, -small, 2.0, 0.0, 0.0, 0.0, 3.0]);
