@@ -180,6 +180,10 @@ mod tests {
         // Products of two small numbers vanish: the eigenvalues are 1e-200 and -1e-200.
         let (t, _) = schur(2, &[0.0, 1e-200, 1e-200, 0.0], TOLERANCE, 1).unwrap();
         assert_eq!((t[0], t[1], t[3]), (0.0, 0.0, 0.0));
+        // Order 2 is not delimited: the 1 above the diagonal is lost.
+        let small = 2f64.powi(-108);
+        let (t, _) = schur(2, &[1.0, small, 1.0, 1.0], TOLERANCE, 1).unwrap();
+        assert_eq!(t, [1.0, 0.0, -small, 1.0]);
         // The smallest numbers have one digit: 0.38 and 2.62 of them become 0 and 3.
         let one = f64::from_bits(1);
         let entries = [one, one, 0.0, one, 2.0 * one, 0.0, 0.0, 0.0, one];
