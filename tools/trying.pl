@@ -26,6 +26,13 @@ sub get {
     return <$in> // '';
 }
 
+# The names in a folder, but for those that begin with a point.
+sub names {
+    my ($at) = @_;
+    opendir my $entries, $at or die "$at: $!\n";
+    return sort grep { !/^\./ } readdir $entries;
+}
+
 # Exit status, standard output and standard error of a program on an input.
 sub ran {
     my ($text, @words) = @_;
@@ -35,7 +42,7 @@ sub ran {
         open STDIN, '<', "$folder/in" or die;
         open STDOUT, '>', "$folder/out" or die;
         open STDERR, '>', "$folder/err" or die;
-        exec @words or die;
+        exec { $words[0] } @words or die;
     }
     waitpid $child, 0;
     return ($? >> 8, get('out'), get('err'));
@@ -51,6 +58,9 @@ sub check {
     $_ = s/([^\x20-\x7e\n])/sprintf '\\x%02x', ord $1/ger for $held, $right;
     print "FAILED $name\n  holds $held\n  right $right\n";
 }
+
+# Broken off, it removes what it wrote.
+$SIG{$_} = sub { exit 1 } for 'HUP', 'INT', 'PIPE', 'TERM';
 
 # The last line, and the exit status.
 sub ended {

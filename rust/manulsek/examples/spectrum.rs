@@ -4,7 +4,8 @@
 //!
 //! Exit status: 0, the eigenvalues are printed. Else nothing is printed but the reason, on standard error:
 //! 1, the input is no square of numbers that an f64 can hold; 2, there is an argument; 3, the library refused;
-//! 4, the eigenvalues could not be written (some may have been).
+//! 4, the eigenvalues could not be written (some may have been). An input or output that is closed is none of these:
+//! Rust opens /dev/null in its place, so the first is an empty matrix, and the second takes all.
 
 use manulsek::{Refusal, Schur};
 use std::env;

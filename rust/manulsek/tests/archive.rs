@@ -1,16 +1,18 @@
 //! Where the package looks for the library's archive, and what it says where there is none: cargo, run on a
 //! copy of the package.
 
+// Only its places are of use here.
+#[allow(dead_code)]
+mod c;
+
+use c::{archive, place};
 use std::fs;
 use std::path::{Path, PathBuf};
 use std::process::Command;
 
-/// The folder of the archive that this package was built with.
-const ARCHIVE: &str = env!("OUT_DIR");
-
 /// A copy of the package, in a repository that has no archive.
 fn repository() -> PathBuf {
-    let root = Path::new(env!("CARGO_TARGET_TMPDIR")).join("repository");
+    let root = place("repository");
     if root.exists() {
         fs::remove_dir_all(&root).unwrap();
     }
@@ -68,12 +70,13 @@ fn the_archive_is_looked_for_in_one_place() {
         None,
         &["`rt staticlib door`", "MANULSEK_LIB_DIR"],
     );
-    works("build", Some(ARCHIVE));
+    let other = archive();
+    works("build", other.parent().unwrap().to_str());
     fails("build", None, &[own_name]);
 
     // The repository's own archive is found, but not where the variable names another place.
     fs::create_dir_all(&own).unwrap();
-    fs::copy(Path::new(ARCHIVE).join("libdoor.a"), own.join("libdoor.a")).unwrap();
+    fs::copy(archive(), own.join("libdoor.a")).unwrap();
     works("build", None);
     let empty = root.join("built");
     let empty = empty.to_str().unwrap();

@@ -1,10 +1,16 @@
 //! Programs in C, built with the archive that this package was built with.
 
+use std::env;
+use std::fs;
 use std::path::{Path, PathBuf};
 use std::process::{Command, Output};
 
-/// The copy that `build.rs` has made, whichever folder it took it from.
-const ARCHIVE: &str = concat!(env!("OUT_DIR"), "/libdoor.a");
+/// The copy that `build.rs` has made, whichever folder it took it from. Cargo tells where that is when it runs the
+/// tests. What it told the compiler may be another's: that of the folder that this one was copied from.
+pub fn archive() -> PathBuf {
+    let folder = env::var_os("OUT_DIR").expect("cargo runs the tests");
+    Path::new(&folder).join("libdoor.a")
+}
 
 /// Those that are there; else `cc`, by which Rust itself links. Without it the tests fail.
 pub fn compilers() -> Vec<&'static str> {
@@ -26,9 +32,11 @@ pub fn run(command: &mut Command) -> Output {
     output
 }
 
-/// A place for a file of the tests.
+/// A place for a file of the tests: beside the tests themselves.
 pub fn place(name: &str) -> PathBuf {
-    Path::new(env!("CARGO_TARGET_TMPDIR")).join(name)
+    let folder = env::current_exe().unwrap().with_file_name("tmp");
+    fs::create_dir_all(&folder).unwrap();
+    folder.join(name)
 }
 
 /// The program that a compiler makes of this source; tests run in the package's folder.
@@ -49,7 +57,8 @@ pub fn built(compiler: &str, source: &Path) -> PathBuf {
             "-Iinclude",
         ])
         .arg(source)
-        .args([ARCHIVE, "-o"])
+        .arg(archive())
+        .arg("-o")
         .arg(&program));
     program
 }
