@@ -93,7 +93,10 @@ impl Options {
             }
             Ok(true)
         })?;
-        Ok(options)
+        match options.count {
+            0 => Err("`--count` of 0 measures nothing".to_string()),
+            _ => Ok(options),
+        }
     }
 
     /// Matrices in a part of a group: twice as many as of the next larger orders, which take eight times as long.
@@ -316,6 +319,7 @@ mod tests {
         let counts: Vec<usize> = (0..GROUPS.len()).map(|group| options.part(group)).collect();
         assert_eq!(counts, [32, 16, 8, 4, 2, 1]);
         assert!(read(&["--large", "1"]).is_err());
+        assert!(read(&["--count", "0"]).is_err());
     }
 
     /// The first part of every family, at orders 2 to 8.

@@ -114,15 +114,18 @@ pub fn worst(rows: &[Vec<Cell>]) {
 
 /// The residual over the norm alone, to be read beside the tolerance.
 pub fn tolerances(rows: &[Vec<Cell>]) {
-    println!("\nFamily `normal` at other tolerances: the largest |A - Q T Q'| / |A|, and how many reach the budget.");
+    println!("\nFamily `normal` at other tolerances: the largest |A - Q T Q'| / |A|, and how many are refused, with 7 and with 9.");
     let head = GROUPS
-        .map(|group| format!("{:>16}", orders(group)))
+        .map(|group| format!("{:>20}", orders(group)))
         .concat();
     println!("{:>9} {head}", "tolerance");
     for (tolerance, row) in TOLERANCES.iter().zip(rows) {
-        let word = |cell: &Cell| match cell.accepted {
-            0 => format!("{:>10} {:>5}", "-", cell.refused[0]),
-            _ => format!("{:>10.1e} {:>5}", cell.relative, cell.refused[0]),
+        let word = |cell: &Cell| {
+            let [seven, _, nine] = cell.refused;
+            match cell.accepted {
+                0 => format!("{:>10} {seven:>5} {nine:>3}", "-"),
+                _ => format!("{:>10.1e} {seven:>5} {nine:>3}", cell.relative),
+            }
         };
         println!(
             "{tolerance:>9.1e} {}",
