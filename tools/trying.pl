@@ -1,5 +1,5 @@
-# What tools/test_record, tools/test_roots and tools/test_readme have in common: files of their own, programs run on an
-# input, and what came out held to what is right.
+# What the tests in Perl have in common (tools/test_record, test_roots, test_package and test_readme): files of their own,
+# programs run on an input, and what came out held to what is right.
 use strict;
 use warnings;
 use Cwd ();
