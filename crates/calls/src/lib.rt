@@ -1,6 +1,7 @@
 // A call of the library by its entry, for the program that makes calls out of a list. An entry is given a matrix,
 // a T or a number, and writes to up to three lent slices: T, Q and workspace; eigenvalues; real parts and
 // imaginary parts; eigenvalues and workspace; a root. The others are left alone.
+#![tactic(auto)]
 ghost use Rattle.std.specs.Prelude.{◌≡◌};
 ghost use Rattle.calls.specs.Call.{decomposed_answer, checked_answer, came, with_or_without_q, rooted, call_of};
 
@@ -9,7 +10,7 @@ use pass::Setting;
 use refusal::{Checked, Told};
 
 // The decomposition with Q and without, the readers of a T, the plain entry, the square root.
-#[derive(Drop)]
+#[derive(Clone, Copy)]
 pub enum Entry {
     WithQ,
     WithoutQ,
@@ -20,7 +21,7 @@ pub enum Entry {
 }
 
 // What is answered: the passes of an accepted decomposition; that values were given, by any other entry; or a refusal.
-#[derive(Drop)]
+#[derive(Clone, Copy)]
 pub enum Answer {
     Passes(u64),
     Values,
@@ -28,7 +29,7 @@ pub enum Answer {
 }
 
 // Which entry, and what it is asked for: the readers and the plain entry look at the order alone, the root at nothing.
-#[derive(Drop)]
+#[derive(Clone, Copy)]
 pub struct Call {
     pub entry: Entry,
     pub order: usize,

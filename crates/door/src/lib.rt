@@ -1,6 +1,7 @@
 // The library for a host program in Rust or C: numbers, the bit patterns of f64 as numbers, and slices of
 // bytes that hold such patterns, little-endian. Matrices lie column by column. Each function takes every
 // input; the crate `answer` says how a refusal is reported in one number.
+#![tactic(auto)]
 mod checks;
 mod lists;
 mod matrices;

@@ -13,14 +13,14 @@ use answer::{checked_number, refusal_number};
 use refusal::{Checked, Refusal};
 
 // The two readers of a T, and the plain entry of a matrix.
-#[derive(Drop)]
+#[derive(Clone, Copy)]
 pub enum ListEntry {
     Real,
     Complex,
     Plain,
 }
 
-#[derive(Drop)]
+#[derive(Clone, Copy)]
 pub struct ListCall {
     pub entry: ListEntry,
     pub order: usize,

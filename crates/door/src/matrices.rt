@@ -18,7 +18,7 @@ use pass::Setting;
 use refusal::{Checked, Refusal};
 
 // What a host asks for; the tolerance is told as its pattern.
-#[derive(Drop)]
+#[derive(Clone, Copy)]
 pub struct Request {
     pub order: usize,
     pub wanted: bool,

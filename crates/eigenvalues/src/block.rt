@@ -6,14 +6,14 @@ ghost use Rattle.eigenvalues.specs.Blocks.{paired, pair_of, answer_at, not_compl
 
 use pass::Block;
 
-#[derive(Drop)]
+#[derive(Clone, Copy)]
 pub struct Parts {
     pub re: f64,
     pub im: f64,
 }
 
 // One real number; or a pair, by half the trace and the root of the discriminant without its sign.
-#[derive(Drop)]
+#[derive(Clone, Copy)]
 pub enum BlockAnswer {
     One(f64),
     Pair(Parts),

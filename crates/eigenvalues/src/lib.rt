@@ -1,4 +1,5 @@
 // Eigenvalues: the readers of a given T.
+#![tactic(auto)]
 mod block;
 mod readers;
 

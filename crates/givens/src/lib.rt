@@ -1,25 +1,26 @@
 // Givens rotations by value, and what they do to rows and columns of a matrix that lies column by
 // column in one slice.
+#![tactic(auto)]
 ghost use Rattle.std.specs.Prelude.{◌≡◌, ◌+◌, ◌*◌, ◌<◌, ◌≤◌};
 ghost use Rattle.givens.specs.Rotation.{identity_of, inverse_of, try_new, new_of, cancel_y};
 ghost use Rattle.givens.specs.Rotated.{rotated, rotated_rows};
 
 // Cosine and sine.
-#[derive(Drop)]
+#[derive(Clone, Copy)]
 pub struct Rotation {
     pub c: f64,
     pub s: f64,
 }
 
 // A rotation, with the norm of the pair that it was made from.
-#[derive(Drop)]
+#[derive(Clone, Copy)]
 pub struct Turn {
     pub rotation: Rotation,
     pub norm: f64,
 }
 
 // What making one answers: a rotation, or that none is needed.
-#[derive(Drop)]
+#[derive(Clone, Copy)]
 pub enum Made {
     Needed(Turn),
     NoneNeeded,

@@ -1,5 +1,6 @@
 // The header of a record of the program `looproots`: read, and checked in the order of document 01. A number's lowest
 // byte comes first.
+#![tactic(auto)]
 ghost use Rattle.std.specs.Prelude.{◌≡◌, ◌+◌, ◌*◌, ◌<◌, ◌≤◌, ◌^◌, length, get_or};
 ghost use Rattle.words.specs.Words.{le64};
 ghost use Rattle.header.specs.Record.{le16, le32, header_of, header_checks, examined};
@@ -7,7 +8,7 @@ ghost use Rattle.header.specs.Read.{FieldRead, HeaderRead};
 
 use refusal::{Checked, Refusal};
 
-#[derive(Drop)]
+#[derive(Clone, Copy)]
 pub struct Header {
     pub length: u64,
     pub kind: u64,
@@ -17,7 +18,7 @@ pub struct Header {
 }
 
 // The header of a record without fault, or the first fault.
-#[derive(Drop)]
+#[derive(Clone, Copy)]
 pub enum Examined {
     Fit(Header),
     Unfit(Refusal),

@@ -12,21 +12,21 @@ use matrix::{Vector2, Vector3};
 
 // What would be the column's first number after the reflection, and whether there is a reflection: there
 // is none where all squares of the column vanish.
-#[derive(Drop)]
+#[derive(Clone, Copy)]
 pub struct Axis {
     pub norm: f64,
     pub reflected: bool,
 }
 
 // The same with the axis itself, for columns of three and of two by value.
-#[derive(Drop)]
+#[derive(Clone, Copy)]
 pub struct Axis3 {
     pub axis: Vector3,
     pub norm: f64,
     pub reflected: bool,
 }
 
-#[derive(Drop)]
+#[derive(Clone, Copy)]
 pub struct Axis2 {
     pub axis: Vector2,
     pub norm: f64,
@@ -35,7 +35,7 @@ pub struct Axis2 {
 
 // The norm with the sign of the column's first number, and the factor: the square of the norm that the
 // column has once that is added to its first number.
-#[derive(Drop)]
+#[derive(Clone, Copy)]
 struct Measured {
     norm: f64,
     factor: f64,

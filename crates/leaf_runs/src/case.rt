@@ -5,7 +5,7 @@ use crate::{reductions, reflections, rotations, slices, vectors};
 
 // A call has some of these numbers, and zeros for the others. In the functions below `group` is the line of the list of
 // names (`main`) that its name stands in, 0 for the first, and k its place in the line, 1 for the first.
-#[derive(Drop)]
+#[derive(Clone, Copy)]
 pub(crate) struct Case {
     // order and number of entries of the matrix, or length of the slice
     pub(crate) n: usize,

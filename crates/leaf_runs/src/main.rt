@@ -5,6 +5,7 @@
 // The file stdout is made from the same calls by the functions of oracle/src/model.rs, and by plain Rust after
 // docs/SUMS.md where that has none, never by this program: `oracle/run leaves` makes it again and compares,
 // `oracle/run leaves --write` stores it.
+#![tactic(auto)]
 mod case;
 mod draw;
 mod read;

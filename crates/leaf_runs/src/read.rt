@@ -7,7 +7,7 @@ use crate::say::{whole, word};
 
 // Where a name stands in a list: in which line, 0 for the first, and as which name of the line, 1 for the first. The
 // line begins with the places of the numbers.
-#[derive(Drop)]
+#[derive(Clone, Copy)]
 struct Found {
     group: usize,
     k: usize,

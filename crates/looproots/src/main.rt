@@ -2,6 +2,7 @@
 // the matrix, or why it is refused. What is printed for which bytes is said by `text_of`
 // (crates/record/specs/Answer.antt). A read or a write that fails is told on standard error: a program of this language
 // has no exit status to give.
+#![tactic(auto)]
 use libc::{STDIN_FILENO, STDOUT_FILENO};
 use reading::Filled;
 

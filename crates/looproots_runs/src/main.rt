@@ -2,6 +2,7 @@
 // the program does it, with the file's name before its text. The files, their names in `args` and what must be
 // printed for them, `stdout`, come from the Rust crate and from document 01, never from this program:
 // `oracle/run records` makes them again and compares, `oracle/run records --write` stores them.
+#![tactic(auto)]
 use libc::STDOUT_FILENO;
 use reading::Filled;
 

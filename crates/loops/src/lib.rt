@@ -1,1 +1,2 @@
 // No code: the words that every definition of the port is written with are in specs/.
+#![tactic(auto)]

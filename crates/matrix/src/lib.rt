@@ -1,4 +1,5 @@
 // Sums and building stones on a matrix that lies column by column in one slice.
+#![tactic(auto)]
 mod blas;
 mod block;
 mod edition;

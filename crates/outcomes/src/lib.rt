@@ -1,1 +1,2 @@
 // No code: the matrices with known outcomes are in specs/.
+#![tactic(auto)]

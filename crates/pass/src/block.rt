@@ -10,7 +10,7 @@ use crate::setting::Setting;
 use givens::Rotation;
 
 // Rows (h00 h01), (h10 h11).
-#[derive(Drop)]
+#[derive(Clone, Copy)]
 pub struct Block {
     pub h00: f64,
     pub h10: f64,
@@ -18,21 +18,21 @@ pub struct Block {
     pub h11: f64,
 }
 
-#[derive(Drop)]
+#[derive(Clone, Copy)]
 pub struct Values {
     pub first: f64,
     pub second: f64,
 }
 
 // Its eigenvalues, if they are real.
-#[derive(Drop)]
+#[derive(Clone, Copy)]
 pub enum Eigvals {
     Real(Values),
     NotReal,
 }
 
 // A rotation to use, or the block is left standing.
-#[derive(Drop)]
+#[derive(Clone, Copy)]
 pub enum Basis {
     Rotate(Rotation),
     Stand,

@@ -1,6 +1,7 @@
 // One pass over an open window: the double shift over three rows or more, the rotation of a block of two; and
 // order 2 as a whole. A matrix of order n lies column by column in one slice. T is t, Q is q; q is rewritten
 // only where it is wanted.
+#![tactic(auto)]
 mod block;
 mod place;
 mod setting;

@@ -1,5 +1,5 @@
 // What a run is asked for. It goes by value from the entry to every step of a pass.
-#[derive(Drop)]
+#[derive(Clone, Copy)]
 pub struct Setting {
     pub order: usize,
     pub wanted: bool,

@@ -1,10 +1,11 @@
 // Bytes from a descriptor: read until there is no more room, or the input ends, or a read fails. A read may bring
 // fewer bytes than there is room for, and is no end for that.
+#![tactic(auto)]
 ghost use Rattle.std.specs.Prelude.{◌≡◌, ◌+◌, ◌<◌, ◌≤◌, ◌^◌, min, length};
 ghost use Rattle.reading.specs.Reading.{after_read, put_behind, Filling};
 
 // What one read comes to: more bytes, all in all so many; the end of the input; or it failed.
-#[derive(Drop)]
+#[derive(Clone, Copy)]
 pub enum Reading {
     More(usize),
     End,
@@ -12,7 +13,7 @@ pub enum Reading {
 }
 
 // What all of them come to: so many bytes, or one failed.
-#[derive(Drop)]
+#[derive(Clone, Copy)]
 pub enum Filled {
     Bytes(usize),
     Failed,

@@ -1,6 +1,7 @@
 // Reflections of the columns and of the rows of a matrix that lies column by column in one slice. The
 // Rust's `Reflection` wraps an axis; here the axis travels as a plain slice, or by value where it has
 // two or three numbers. Its bias is 0 in every use and is left out.
+#![tactic(auto)]
 mod columns;
 mod place;
 mod rows;

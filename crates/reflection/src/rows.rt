@@ -10,7 +10,7 @@ ghost use Rattle.reflection.specs.Inner.{RowsFit, four_times, four_plus, four_pu
 ghost use Rattle.reflection.specs.Inner.{eight_times, eight_plus, eight_put, eight_along};
 
 // The sums of four rows.
-#[derive(Drop)]
+#[derive(Clone, Copy)]
 struct Four {
     w0: f64,
     w1: f64,
@@ -59,7 +59,7 @@ fn sums_of_four(a: &[f64], t: &[f64], n: usize, i: usize, c0: usize) -> Four
 }
 
 // The sums of eight rows: of the upper four, and of the lower.
-#[derive(Drop)]
+#[derive(Clone, Copy)]
 struct Eight {
     upper: Four,
     lower: Four,

@@ -3,13 +3,13 @@ ghost use Rattle.std.specs.Prelude.{◌≡◌};
 ghost use Rattle.refusal.specs.Refusal.{with_place, without_place, told_of};
 
 // Rows and columns count from 0.
-#[derive(Drop)]
+#[derive(Clone, Copy)]
 pub struct Place {
     pub row: usize,
     pub col: usize,
 }
 
-#[derive(Drop)]
+#[derive(Clone, Copy)]
 pub enum Refusal {
     OrderZero,
     OrderTooLarge,
@@ -28,14 +28,14 @@ pub enum Refusal {
 }
 
 // What one check, or several in turn, come to.
-#[derive(Drop)]
+#[derive(Clone, Copy)]
 pub enum Checked {
     Passed,
     Refused(Refusal),
 }
 
 // Document 01's number, and the place; row 0 and column 0 where none is told.
-#[derive(Drop)]
+#[derive(Clone, Copy)]
 pub struct Told {
     pub number: u64,
     pub row: usize,

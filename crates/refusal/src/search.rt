@@ -9,7 +9,7 @@ ghost use Rattle.refusal.specs.Inner.{Tallied};
 
 use crate::refusal::Place;
 
-#[derive(Drop)]
+#[derive(Clone, Copy)]
 pub enum Search {
     At(Place),
     Nowhere,

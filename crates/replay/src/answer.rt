@@ -1,7 +1,7 @@
 // An answer as the list has it, in three words.
 use calls::Answer;
 
-#[derive(Drop)]
+#[derive(Clone, Copy)]
 pub(crate) struct Stored {
     pub(crate) first: u64,
     pub(crate) second: u64,

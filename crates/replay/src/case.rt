@@ -52,7 +52,7 @@ fn call_of(b: &[u8]) -> Call {
 }
 
 // How a case went, with the number of the refusal that came, or 0. One that is no case, or has no room, is not made.
-#[derive(Drop)]
+#[derive(Clone, Copy)]
 pub(crate) enum Went {
     AsExpected(u64),
     Otherwise(u64),

@@ -9,7 +9,7 @@ use libc::STDIN_FILENO;
 // More records than a list has.
 const MOST: usize = 1000000;
 
-#[derive(Drop)]
+#[derive(Clone, Copy)]
 struct Head {
     // 0 at the end of the list
     kind: u8,
@@ -18,7 +18,7 @@ struct Head {
 }
 
 // Cases, and how many of them differ: in all, and in the group.
-#[derive(Drop)]
+#[derive(Clone, Copy)]
 struct Sums {
     groups: u64,
     cases: u64,

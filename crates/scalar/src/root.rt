@@ -28,7 +28,7 @@ const MINUS_ZERO: u64 = 0x8000_0000_0000_0000;
 
 // A number as top * 4^h / 2^62 smallest values, and the pattern of a normal number with the same digits and
 // an exponent of the same parity, which the guess goes by.
-#[derive(Drop)]
+#[derive(Clone, Copy)]
 struct Place {
     top: u64,
     h: u64,

@@ -3,7 +3,7 @@ ghost use Rattle.std.specs.Prelude.{◌≡◌};
 ghost use Rattle.scalar.specs.Sign.{modulus_of, signum_of, to_exp_of};
 
 // A number taken apart: magnitude times sign, where the sign is 1 or -1.
-#[derive(Drop)]
+#[derive(Clone, Copy)]
 pub struct Exp {
     pub magnitude: f64,
     pub sign: f64,

@@ -1,11 +1,11 @@
 // The tables that a guess at a root goes by. `tools/root_table` prints them.
 
 // A root in two parts: the nearest float, and the rest.
-#[derive(Drop)]
+#[derive(Clone, Copy)]
 pub(crate) struct Point(pub f64, pub f64);
 
 // The coefficients of a polynomial, from that of u to that of u^6.
-#[derive(Drop)]
+#[derive(Clone, Copy)]
 pub(crate) struct Curve(pub f64, pub f64, pub f64, pub f64, pub f64, pub f64);
 
 // The numbers from 1 to below 2 are cut in 64 by the first six digits after the point. Here is the root

@@ -1,6 +1,7 @@
 // Runs each function of `scalar` on a list of patterns and prints a line for each: the pattern, its root,
 // signum, modulus, magnitude and sign of to_exp, all by their bits, then 1 or 0 for finite and for zero.
 // The file stdout beside src/ is what the Rust functions answer (`oracle/run scalar` makes it again and compares).
+#![tactic(auto)]
 use libc::STDOUT_FILENO;
 
 const PATTERNS: [u64; 55] = [

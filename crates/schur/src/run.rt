@@ -13,7 +13,7 @@ use pass::Setting;
 use window::{Window, delimit_subproblem};
 
 // Where a run stands: the window that is open, and the passes counted so far.
-#[derive(Drop)]
+#[derive(Clone, Copy)]
 pub struct State {
     pub window: Window,
     pub passes: u64,
@@ -21,7 +21,7 @@ pub struct State {
 
 // What a run answers: it ended after so many counted passes; they reached the budget, with this window
 // open; or an argument does not fit.
-#[derive(Drop)]
+#[derive(Clone, Copy)]
 pub enum Ran {
     Ended(u64),
     BudgetReached(Window),
@@ -134,7 +134,7 @@ fn unpack(t: &mut [f64], q: &mut [f64], asked: Setting, work: &mut [f64])
 }
 
 // Scaled down, reduced, delimited: no pass is counted yet. The largest magnitude is handed back too.
-#[derive(Drop)]
+#[derive(Clone, Copy)]
 struct Opening {
     state: State,
     amax: f64,

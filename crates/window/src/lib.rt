@@ -1,4 +1,5 @@
 // The window that the next pass works on: delimiting. A matrix of order n lies column by column in one slice.
+#![tactic(auto)]
 ghost use Rattle.std.specs.Prelude.{◌≡◌, length, ◌*◌, ◌<◌, ◌≤◌};
 ghost use Rattle.window.specs.Window.{small, cut, delimited, delimit_here, delimit_of};
 ghost use Rattle.window.specs.Inner.{EndFound, StartFound};
@@ -8,7 +9,7 @@ mod place;
 use crate::place::{get, put};
 
 // Its first and its last row.
-#[derive(Drop)]
+#[derive(Clone, Copy)]
 pub struct Window {
     pub start: usize,
     pub end: usize,

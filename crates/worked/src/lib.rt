@@ -1,1 +1,2 @@
 // No code: the worked cases are in specs/.
+#![tactic(auto)]
