@@ -1,0 +1,11 @@
+-- `door::matrices::write_q` meets its contract. Assumes nothing.
+use Rattle.words.proofs.Between.{encoded}
+use Rattle.door.proofs.matrices.write_q.Goals as goal
+
+pub returns-then-wanted : goal.returns-then-wanted
+returns-then-wanted c = let taken = c.if-wanted.true in
+    let wrote = c.encode.ensures in
+    (rw taken (encoded _ c.args.q.now wrote.0 (c.requires taken)), λ _. wrote.1 (c.requires taken))
+
+pub returns-else-wanted : goal.returns-else-wanted
+returns-else-wanted c = let unwanted = c.if-wanted.false in (rw unwanted, λ e. cc)

@@ -1,0 +1,7 @@
+-- `leaf_door::manulsek_leaf_axis` meets its contract. Assumes nothing.
+use mathlib.Core.Path.{ap}
+use Rattle.householder.specs.Axis.{AxisAnswer}
+use Rattle.leaf_door.proofs.manulsek_leaf_axis.Goals as goal
+
+pub returns : goal.returns
+returns c = let e = c.reflection_axis_mut-axis.ensures in (ap (λ (r : AxisAnswer). r.norm) e, ap (λ (r : AxisAnswer). r.axis) e)

@@ -1,0 +1,27 @@
+-- `pass::shift::shift_here` meets its contract. Assumes nothing.
+use Prim.Native.Nat.{ℕ, ◌+◌, ◌-◌, ◌≤◌}
+use mathlib.Core.Path.{◌≡◌}
+use lib.ListN.{length}
+use Rattle.loops.specs.Times.{range}
+use Rattle.matrix.specs.declared.vector.Vector3.{Vector3}
+use Rattle.window.specs.declared.Window.{Window}
+use Rattle.pass.specs.declared.setting.Setting.{Setting}
+use Rattle.pass.specs.Pair.{Pair, pair}
+use Rattle.pass.specs.Pass.{chased}
+use Rattle.pass.specs.Inner.{Reaches}
+use Rattle.pass.proofs.shift.shift_here.Given as goal
+
+-- the steps before k have been made
+pub record Chasing (asked : Setting) (w : Window) (first : Vector3) (p₀ : Pair) (k-end k : ℕ) (p : Pair) : Type 0 where
+  pub from : w.start ≤ k
+  pub within : k ≤ k-end
+  pub last : k-end + 1 ≡ w.end
+  pub matrix : Reaches asked.order w.end p.t
+  pub room : length p.q ≡ length p₀.q
+  pub done : p ≡ range (chased asked w first) w.start k p₀
+
+abbrev pub invariant-loop-k : goal.invariant-loop-k
+invariant-loop-k l = Chasing l.asked l.w l.first (pair l.initial.t l.initial.q) l.k-end l.k (pair l.t l.q)
+
+abbrev pub decreases-loop-k : goal.decreases-loop-k
+decreases-loop-k l = l.k-end - l.k

@@ -1,0 +1,21 @@
+-- `pass::shift::step2` meets its contract. Assumes nothing.
+use borrow.Author.Tests.{not-true, not-false}
+use Rattle.matrix.specs.Vectors.{list2}
+use Rattle.householder.specs.Axis.{axis_answer}
+use Rattle.pass.proofs.Stepping.{step_none, step_made}
+use Rattle.std.specs.Prelude.{not}
+use Rattle.std.proofs.Common.{ap}
+use Rattle.pass.proofs.shift.step2.Goals as goal
+
+pub returns-then-not-r : goal.returns-then-not-r
+returns-then-not-r c =
+    let axis = c.reflection_axis2-r in
+    step_none _ _ _ _ _ (axis_answer (list2 axis.result.axis) axis.result.norm axis.result.reflected) axis.ensures
+    (not-true axis.result.reflected (ap not c.if-not-r.true))
+
+pub returns : goal.returns
+returns c =
+    let axis = c.reflection_axis2-r in
+    step_made _ _ _ _ _ (axis_answer (list2 axis.result.axis) axis.result.norm axis.result.reflected) _ _ _ axis.ensures
+    (not-false axis.result.reflected (ap not c.if-not-r.false))
+    c.sweep2.ensures c.rows_at.ensures c.reflect_at2.ensures

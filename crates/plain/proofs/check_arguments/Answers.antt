@@ -1,0 +1,13 @@
+-- `plain::check_arguments` meets its contract. Assumes nothing.
+use mathlib.Core.Path.{◌∙◌}
+use Rattle.refusal.specs.Checks.{given_checks}
+use Rattle.refusal.proofs.ChecksInTurn.{next_first, next_then, next_assoc}
+use Rattle.plain.proofs.check_arguments.Goals as goal
+
+pub returns-in_default : goal.returns-in_default
+unfolding given_checks
+returns-in_default c = next_first _ c.check_sizes-sizes.ensures c.in_default.is ∙ next_assoc _ _ _
+
+pub returns : goal.returns
+unfolding given_checks
+returns c = next_then c.check_sizes-sizes.ensures c.in-Passed.is c.check_entries.ensures ∙ next_assoc _ _ _

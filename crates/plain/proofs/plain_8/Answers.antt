@@ -1,0 +1,10 @@
+-- `plain::plain_8` meets its contract. Assumes nothing.
+use native.Mathlib.Nat.{mul-le-mul}
+use Rattle.plain.proofs.plain_8.Goals as goal
+
+pub plain_in-requires : goal.plain_in-requires
+plain_in-requires c =
+    let pre = c.requires in (pre.sized, mul-le-mul pre.most pre.most)
+
+pub returns : goal.returns
+returns c = after_plain_in.Plain-in.ensures

@@ -1,0 +1,9 @@
+-- `record::lines::put_not_read` meets its contract. Assumes nothing.
+use Rattle.record.specs.Text.{ascii}
+use Rattle.record.proofs.Paging.{both_put}
+use Rattle.record.proofs.lines.put_not_read.Goals as goal
+
+pub returns : goal.returns
+unfolding ascii
+returns c =
+    both_put c.put-behind.ensures c.before.before.Put-refused.ensures

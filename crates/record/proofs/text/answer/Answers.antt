@@ -1,0 +1,59 @@
+-- `record::text::answer` meets its contract. Assumes nothing.
+use Prim.Native.Nat.{ℕ, ◌-◌}
+use mathlib.Core.Path.{◌≡◌, refl, sym, ap, ◌∙◌}
+use mathlib.Core.List.{List}
+use native.Mathlib.Omega.{arith}
+use lib.ListN.{length, take, drop, length-drop}
+use lib.Seq.{length-take-le, take_all}
+use Rattle.header.specs.declared.Examined.{Examined}
+use Rattle.header.specs.Record.{examined}
+use Rattle.header.proofs.FitHeader.{FitHeader, fit_header}
+use Rattle.record.specs.Answer.{examined_text, text_of}
+use Rattle.record.proofs.Paging.{put_as, put_within, all_printed, none_printed}
+use Rattle.record.proofs.text.answer.Goals.{In-Fit-2}
+use Rattle.record.proofs.text.answer.Goals as goal
+
+-- a record without fault is as long as its order says
+fit : (c : In-Fit-2) → FitHeader c.in-Fit.h (length c.args.input.now)
+fit c = fit_header _ (sym c.examine.ensures ∙ c.in-Fit.is)
+
+-- all that lies behind a header
+entries : (b : List ℕ) → take (length b - 20) (drop 20 b) ≡ drop 20 b
+entries b = take_all (length b - 20) (drop 20 b) (omega (arith, length-drop 20 b))
+
+-- the text by what was found of the header
+text-by : {x : Examined} (b : List ℕ) → x ≡ examined b → examined_text x b ≡ text_of b
+unfolding text_of
+text-by b e = ap (λ x. examined_text x b) e
+
+pub put_passed-requires : goal.put_passed-requires
+put_passed-requires c =
+    let b = c.args.input.now in
+    let f = fit (goal.at.put_passed-requires c).In-Fit-2 in
+    record { room = omega arith; order = f.order; returns-in-Fit = rw (entries b) (omega (arith, length-drop 20 b)) }
+
+pub returns-then-text-lt65536 : goal.returns-then-text-lt65536
+returns-then-text-lt65536 c = (none_printed _ c.args.text.now c.if-text-lt65536.true, (omega arith, refl))
+
+pub returns-in-Unfit : goal.returns-in-Unfit
+unfolding examined_text
+returns-in-Unfit c =
+    (
+      all_printed (omega arith)
+          (put_as (text-by _ (sym c.in-Unfit.is ∙ c.examine.ensures)) (put_within (omega arith) put.Put-refused.ensures)),
+      (omega arith, sym (length-take-le _ _ (omega arith))),
+    )
+
+pub returns-in-Fit : goal.returns-in-Fit
+unfolding examined_text
+returns-in-Fit c =
+    (
+      all_printed (omega arith) (put_as (text-by _ (sym c.in-Fit.is ∙ c.examine.ensures)) (rw entries at c.put_passed.ensures)),
+      (omega arith, sym (length-take-le _ _ (omega arith))),
+    )
+
+pub slice_bounds-put_passed-count : goal.slice_bounds-put_passed-count
+slice_bounds-put_passed-count c = omega (arith, fit (goal.at.slice_bounds-put_passed-count c).In-Fit-2)
+
+pub slice_bounds-put_passed-start : goal.slice_bounds-put_passed-start
+slice_bounds-put_passed-start c = omega (arith, fit (goal.at.slice_bounds-put_passed-start c).In-Fit-2)

@@ -1,0 +1,8 @@
+-- `record::text::room` meets its contract. Assumes nothing.
+use Prim.Native.Nat.{ℕ}
+use mathlib.Core.Path.{refl, sym}
+use lib.ListN.{length-replicate}
+use Rattle.record.proofs.text.room.Goals as goal
+
+pub returns : goal.returns
+returns c = (refl, sym (length-replicate {A = ℕ} 8213 0))

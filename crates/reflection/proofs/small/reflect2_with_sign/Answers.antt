@@ -1,0 +1,31 @@
+-- `reflection::small::reflect2_with_sign` meets its contract. Assumes nothing.
+use Prim.Native.Nat.{◌-◌}
+use native.Mathlib.Omega.{arith}
+use lib.ListN.{length-set}
+use Rattle.matrix.proofs.Walks.{down_refused, down_begun, down_more, down_done}
+use Rattle.reflection.specs.Reflected.{reflected}
+use Rattle.reflection.proofs.SmallTurns.{turn_down_two}
+use Rattle.std.specs.Prelude.{not}
+use Rattle.std.proofs.Common.{ap}
+use Rattle.reflection.proofs.small.reflect2_with_sign.Goals as goal
+
+pub loop-j-preserved : goal.loop-j-preserved
+loop-j-preserved c =
+    let inv = c.loop-j.invariant in
+    down_more inv (omega arith) (rw c.first_of-p.ensures.is (turn_down_two _ _ _ _ _ _ _ _ inv.fits.in_rows inv.from inv.done))
+
+pub returns-then-not-block_fits : goal.returns-then-not-block_fits
+unfolding reflected
+returns-then-not-block_fits c = down_refused _ _ _ _ _ _ _ c.block_fits.ensures (ap not c.if-not-block_fits.true)
+
+pub loop-j-init : goal.loop-j-init
+unfolding reflected
+loop-j-init c = down_begun _ _ _ _ _ _ _ c.block_fits.ensures (ap not c.if-not-block_fits.false)
+
+pub bounds-t-q-in-loop-j : goal.bounds-t-q-in-loop-j
+unfolding reflected
+bounds-t-q-in-loop-j c = simp length-set (omega arith)
+
+pub returns : goal.returns
+unfolding reflected
+returns c = down_done c.loop-j.invariant (omega arith)

@@ -1,0 +1,16 @@
+-- `scalar::bits::bits_of` meets its contract: a NaN by the pattern that the logic writes for it, any other float by its own; and every f64
+-- is what its pattern is read as (`both_ways`). Assumes nothing.
+use Rattle.std.proofs.Common.{sym, refl, ap, ◌∙◌}
+use lib.Ieee.{to_bits, binary64}
+use Rattle.loops.specs.Tests.{truth}
+use Rattle.scalar.proofs.Patterns.{only_nan, no_nan, to_bits-nan, both_ways}
+use Rattle.scalar.proofs.bits.bits_of.Goals as goal
+
+pub returns-then-x : goal.returns-then-x
+returns-then-x c = both_ways _ (truth c.well_formed.0.1) (sym (ap (to_bits binary64) (only_nan _ c.if-x.true) ∙ to_bits-nan))
+
+pub float_to_bits-result : goal.float_to_bits-result
+float_to_bits-result c = no_nan _ c.if-x.false
+
+pub returns : goal.returns
+returns c = both_ways _ (truth c.well_formed.0.1) refl

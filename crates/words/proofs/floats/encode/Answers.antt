@@ -1,0 +1,30 @@
+-- `words::floats::encode` meets its contract: that each float is a value of the format is told by what `bits_of` promises of it.
+-- Assumes nothing.
+use Prim.Native.Nat.{◌*◌, ◌-◌}
+use native.Mathlib.Omega.{arith}
+use mathlib.Core.Path.{◌≡◌}
+use lib.ListN.{length}
+use Rattle.words.proofs.FloatLoops.{written_none, written_more}
+use Rattle.words.proofs.Round.{left_alone, all_written}
+use Rattle.words.proofs.floats.encode.Goals as goal
+
+-- another number of floats, and then some bytes too many: b is left alone
+pub returns-then-b-a : goal.returns-then-b-a
+returns-then-b-a c = left_alone (λ e. c.if-b-a.true (omega arith))
+
+pub returns-then-b-ne0 : goal.returns-then-b-ne0
+returns-then-b-ne0 c = left_alone (λ e. c.if-b-ne0.true (omega arith))
+
+pub loop-k-preserved : goal.loop-k-preserved
+loop-k-preserved c =
+    let pattern = c.bits_of.ensures in
+    written_more c.loop-k.invariant (omega arith) pattern.0 pattern.1 c.write_u64.ensures
+
+pub returns : goal.returns
+returns c =
+    let x = c.args in
+    let same : length x.b.now ≡ 8 * length x.a.now = omega arith in
+    all_written c.loop-k.invariant (omega arith) same
+
+pub loop-k-init : goal.loop-k-init
+loop-k-init c = written_none _ _
