@@ -9,6 +9,6 @@ returns c =
     record {
       is = rw (c.eight-tolerance.ensures, c.four-budget.ensures.is, c.two-order.ensures.is, c.two-kind.ensures.is, c.four-length.ensures.is);
       length = omega arith;
-      (goal.at.returns c).After-two-order = omega arith;
-      (goal.at.returns c).After-four-budget = omega arith;
+      order = omega arith;
+      budget = omega arith;
     }

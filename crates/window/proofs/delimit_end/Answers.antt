@@ -14,7 +14,7 @@ loop-e-init c = record { size = omega arith; upto = omega arith; left = refl }
 pub returns-then-not-is_small : goal.returns-then-not-is_small
 unfolding stands
 returns-then-not-is_small c =
-    let l = c.before.before.before.before.loop in
+    let l = c.loop-e in
     let stop : stands _ _ (falling l.e l.t) ≡ true = ap not (sym c.is_small.ensures) ∙ (ap not c.if-not-is_small.true) in
     record { fallen = sym (until_stop _ _ _ _ stop) ∙ l.invariant.left; upto = omega arith }
 

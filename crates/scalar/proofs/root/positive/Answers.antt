@@ -18,8 +18,7 @@ float_to_bits-t c = below_no_nan _ _ c.if-x.true
 pub returns-then-nearest : goal.returns-then-nearest
 returns-then-nearest c =
     let p = c.scaled-p.ensures.placed in
-    let g = c.guess-x in
-    back g.result _ (truth g.ok) (omega arith)
+    back c.guess-x.result _ (truth c.guess-x.type_inv) (omega arith)
     ∙ (answer _ _ _ _ c.requires.some c.requires.below p (c.nearest.ensures c.if-nearest.true)).is
 
 -- what `beside` found

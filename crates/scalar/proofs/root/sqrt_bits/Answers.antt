@@ -17,7 +17,7 @@ bits_of-requires c = omega arith
 -- what the three calls make is `root_bits` of the pattern
 made : (c : After-bits_of) → c.bits_of.result ≡ root_bits c.args.w
 unfolding root_bits
-made c = rw (c.bits_of.ensures.0, c.sqrt.ensures, c.of_bits.ensures)
+made c = rw (c.bits_of.ensures.value, c.sqrt.ensures, c.of_bits.ensures)
 
 pub returns : goal.returns
 returns c = (made c, λ t. made c ∙ nan_bits_root _ t)
