@@ -6,7 +6,7 @@ use Rattle.eigenvalues.proofs.Filling.{Filled}
 use Rattle.eigenvalues.proofs.readers.do_eigenvalues.Given as goal
 
 abbrev pub invariant-loop-k : goal.invariant-loop-k
-invariant-loop-k l = Filled l.n (λ l.k. l.t ! place l.n l.k l.k) l.k l.values
+invariant-loop-k l = Filled l.n (λ k. l.t ! place l.n k k) l.k l.values
 
 abbrev pub decreases-loop-k : goal.decreases-loop-k
 decreases-loop-k l = l.n - l.k

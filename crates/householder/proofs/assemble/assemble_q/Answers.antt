@@ -25,19 +25,19 @@ second : (c : After-block_fits-2)
 second c = from_row_0 _ _ _ _ (from_column_0 _ _ _ _ c.block_fits-2.ensures)
 
 fitted : (c : Else-not-block_fits) → let x = c.args in Fits x.n (length x.m.now) x.n x.n
-fitted c = within _ _ _ _ (first c.before) (ap not c.if-not-block_fits.false)
+fitted c = within _ _ _ _ (from_row_0 _ _ _ _ (from_column_0 _ _ _ _ c.block_fits.ensures)) (ap not c.if-not-block_fits.false)
 
 fitted-q : (c : Else-not-block_fits-2)
     → let x = c.args in Fits x.n (length x.q.now) x.n x.n
-fitted-q c = within _ _ _ _ (second c.before) (ap not c.if-not-block_fits-2.false)
+fitted-q c = within _ _ _ _ (from_row_0 _ _ _ _ (from_column_0 _ _ _ _ c.block_fits-2.ensures)) (ap not c.if-not-block_fits-2.false)
 
 -- after the tests
 passed : (c : Else-last-signs) → let x = c.args in
     assembled x.n x.m.now x.signs.now x.q.now ≡ down (with_axis x.n x.m.now x.signs.now) (x.n - 1) (identity x.n x.q.now)
 unfolding assembled
 passed c = rw (
-  inside (first c.before.before.before.before.before) (ap not c.if-not-block_fits.false),
-  inside (second c.before.before.before) (ap not c.if-not-block_fits-2.false),
+  inside (from_row_0 _ _ _ _ (from_column_0 _ _ _ _ c.block_fits.ensures)) (ap not c.if-not-block_fits.false),
+  inside (from_row_0 _ _ _ _ (from_column_0 _ _ _ _ c.block_fits-2.ensures)) (ap not c.if-not-block_fits-2.false),
   le-leb _ _ c.if-last-signs.false,
 )
 

@@ -23,4 +23,4 @@ pub shape_of-column-then-is_zero : goal.shape_of-column-then-is_zero
 shape_of-column-then-is_zero c = simp length-set (omega arith)
 
 pub shape_of-column : goal.shape_of-column
-shape_of-column c = omega (arith, simp length-set at c.unscale_mut.kept.0)
+shape_of-column c = omega (arith, simp length-set at c.unscale_mut.auto.t)

@@ -17,7 +17,7 @@ fitted : (c : Else-not-block_fits) → let x = c.args in Fits x.n (length x.t.no
 fitted c = within _ _ _ _ c.block_fits.ensures (ap not c.if-not-block_fits.false)
 
 bounds : (c : Else-n-work) → let x = c.args in Column x.n x.icol
-bounds c = let f = fitted c.before in column _ _ (omega arith) (omega arith)
+bounds c = let f = within _ _ _ _ c.block_fits.ensures (ap not c.if-not-block_fits.false) in column _ _ (omega arith) (omega arith)
 
 -- after the tests
 passed : (c : Else-n-work) → let x = c.args in
@@ -39,7 +39,7 @@ unfolding cleared_here on_part
 returns-then-not-axis c = rw (
   passed (goal.at.returns-then-not-axis c).Else-n-work,
   ← c.reflection_axis_mut-axis.ensures,
-  not-true c.reflection_axis_mut-axis.result.reflected (ap not c.if-not-axis.true),
+  not-true c.reflection_axis_mut-axis.result.reflected c.if-not-axis.true,
 )
 
 -- what stands in the column after the axis routine is the axis
@@ -47,11 +47,11 @@ rewritten : (c : After-reflection_axis_mut-axis) → let x = c.args in let ys = 
     below_row x.n x.icol (on_part (λ _. ys) (place x.n (x.icol + 1) x.icol) (place x.n x.n x.icol) x.t.now) ≡ ys
 rewritten c =
     let x = c.args in
-    let f = fitted c.before.before.before in
-    let b = bounds c.before.before in
+    let f = within _ _ _ _ c.block_fits.ensures (ap not c.if-not-block_fits.false) in
+    let b : Column x.n x.icol = column _ _ (omega arith) (omega arith) in
     let a = place x.n (x.icol + 1) x.icol in
     let e = place x.n x.n x.icol in
-    on_part-part (λ _. c.reflection_axis_mut-axis.new.column) a e x.t.now (omega arith) (omega arith) (c.reflection_axis_mut-axis.auto.0
+    on_part-part (λ _. c.reflection_axis_mut-axis.new.column) a e x.t.now (omega arith) (omega arith) (c.reflection_axis_mut-axis.auto.column
     ∙ part_length a e x.t.now (omega arith) (omega arith))
 
 pub returns : goal.returns
@@ -63,7 +63,7 @@ returns c =
       c.signum.ensures,
       passed (goal.at.returns c).Else-n-work,
       ← c.reflection_axis_mut-axis.ensures,
-      not-false c.reflection_axis_mut-axis.result.reflected (ap not c.if-not-axis.false),
+      not-false c.reflection_axis_mut-axis.result.reflected c.if-not-axis.false,
       rewritten (goal.at.returns c).After-reflection_axis_mut-axis,
     )
 

@@ -25,12 +25,11 @@ made : (c : After-modulus-2) (d : Bool) → lt c.modulus-2.result c.modulus.resu
     Rotate (new_of (cond d (v.first ⊖ m.h11) (v.second ⊖ m.h11)) m.h10).rotation ≡ basis_of m
 made c d h =
     let m = c.args.m in
-    let answer = c.eigvals-1.given in
-    let v = answer.0.0 in
+    let v = c.in-Real.eigvals in
     let asked : lt (modulus_of (v.second ⊖ m.h11)) (modulus_of (v.first ⊖ m.h11)) ≡ lt c.modulus-2.result c.modulus.result =
     rw (c.modulus-2.ensures, c.modulus.ensures) in
     basis_made m v d (sym c.is_zero.ensures ∙ c.if-is_zero.false)
-    (sym answer.1 ∙ c.compute_2x2_eigvals.ensures) (asked ∙ h)
+    (sym c.in-Real.is ∙ c.compute_2x2_eigvals.ensures) (asked ∙ h)
 
 pub returns-then-modulus : goal.returns-then-modulus
 returns-then-modulus c = ap (λ turn. Rotate turn.rotation) c.new.ensures ∙ made (goal.at.returns-then-modulus c).After-modulus-2 true c.if-modulus.true

@@ -45,7 +45,7 @@ returns-else-asked c =
     )
 
 pub block_at-requires : goal.block_at-requires
-block_at-requires c = omega (arith, fitted (goal.at.block_at-requires c).After-block_fits)
+block_at-requires c = omega (arith, fitted (goal.at.block_at-requires c).Else-not-block_fits)
 
 pub turn_t-requires : goal.turn_t-requires
 turn_t-requires c = omega (arith, fitted (goal.at.turn_t-requires c).Else-not-block_fits)

@@ -20,11 +20,11 @@ whole : (c : After-block_fits)
 whole c = from_row_0 _ _ _ _ (from_column_0 _ _ _ _ c.block_fits.ensures)
 
 matrix : (c : Else-not-block_fits) → let x = c.args in Fits x.asked.order (length x.t.now) x.asked.order x.asked.order
-matrix c = within _ _ _ _ (whole c.before) (ap not c.if-not-block_fits.false)
+matrix c = within _ _ _ _ (from_row_0 _ _ _ _ (from_column_0 _ _ _ _ c.block_fits.ensures)) (ap not c.if-not-block_fits.false)
 
 fitted : (c : Else-end-n)
     → let x = c.args in Fits x.asked.order (length x.t.now) (x.w.end + 1) (x.w.end + 1)
-fitted c = present _ _ _ (matrix c.before.before) (omega arith)
+fitted c = present _ _ _ (within _ _ _ _ (from_row_0 _ _ _ _ (from_column_0 _ _ _ _ c.block_fits.ensures)) (ap not c.if-not-block_fits.false)) (omega arith)
 
 there : (c : Else-end-n)
     → let x = c.args in block_fits x.asked.order (length x.t.now) (x.w.end + 1) (x.w.end + 1) ≡ true
@@ -62,7 +62,7 @@ returns c =
 
 -- the place of the last entry, where both numbers are at most 64
 room : (c : Else-end-gt64) → let x = c.args in x.w.end * x.asked.order ≤ 4096
-room c = let f = matrix c.before in product_64 _ _ (omega arith) f.order
+room c = let f = within _ _ _ _ (from_row_0 _ _ _ _ (from_column_0 _ _ _ _ c.block_fits.ensures)) (ap not c.if-not-block_fits.false) in product_64 _ _ (omega arith) f.order
 
 pub overflow_mul-end : goal.overflow_mul-end
 overflow_mul-end c = omega (arith, room c)

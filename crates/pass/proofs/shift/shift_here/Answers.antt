@@ -24,7 +24,7 @@ pub returns : goal.returns
 unfolding pass_here
 returns c =
     let l = c.loop-k in
-    let x = read.before.before.before.before.args in
+    let x = c.args in
     let s = x.w.start in
     let e = x.w.end in
     let done = range_done (chased x.asked x.w c.first_column-first.result) s (e - 1) l.k (pair x.t.now x.q.now) (omega arith) (omega arith)

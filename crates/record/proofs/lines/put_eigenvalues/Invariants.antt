@@ -7,7 +7,7 @@ use Rattle.record.proofs.LineLoop.{Listing}
 use Rattle.record.proofs.lines.put_eigenvalues.Given as goal
 
 abbrev pub invariant-loop-k : goal.invariant-loop-k
-invariant-loop-k l = Listing (λ l.k. eigenvalue_line l.k (to_bits binary64 (l.re ! l.k)) (to_bits binary64 (l.im ! l.k))) 39 l.n l.at l.initial.text l.k l.behind l.text
+invariant-loop-k l = Listing (λ k. eigenvalue_line k (to_bits binary64 (l.re ! k)) (to_bits binary64 (l.im ! k))) 39 l.n l.at l.initial.text l.k l.behind l.text
 
 abbrev pub decreases-loop-k : goal.decreases-loop-k
 decreases-loop-k l = l.n - l.k

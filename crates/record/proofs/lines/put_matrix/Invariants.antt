@@ -7,7 +7,7 @@ use Rattle.record.proofs.LineLoop.{Listing}
 use Rattle.record.proofs.lines.put_matrix.Given as goal
 
 abbrev pub invariant-loop-k : goal.invariant-loop-k
-invariant-loop-k l = Listing (λ l.k. entry_line l.letter (l.k % l.n) (l.k / l.n) (to_bits binary64 (l.a ! l.k))) 25 (l.n * l.n) l.at l.initial.text l.k l.behind l.text
+invariant-loop-k l = Listing (λ k. entry_line l.letter (k % l.n) (k / l.n) (to_bits binary64 (l.a ! k))) 25 (l.n * l.n) l.at l.initial.text l.k l.behind l.text
 
 abbrev pub decreases-loop-k : goal.decreases-loop-k
 decreases-loop-k l = l.k-end - l.k

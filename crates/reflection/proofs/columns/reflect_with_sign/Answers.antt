@@ -52,11 +52,11 @@ slice_bounds-dot-count c = omega (arith, turn c)
 
 pub slice_bounds-dot-start : goal.slice_bounds-dot-start
 unfolding reflected
-slice_bounds-dot-start c = omega (arith, turn (goal.at.slice_bounds-dot-start c).At-loop-j)
+slice_bounds-dot-start c = omega (arith, turn (goal.at.slice_bounds-dot-start c).In-loop-j)
 
 pub slice_bounds-dot-end : goal.slice_bounds-dot-end
 unfolding reflected
-slice_bounds-dot-end c = omega (arith, turn (goal.at.slice_bounds-dot-end c).At-loop-j)
+slice_bounds-dot-end c = omega (arith, turn (goal.at.slice_bounds-dot-end c).In-loop-j)
 
 pub dot-requires : goal.dot-requires
 unfolding reflected

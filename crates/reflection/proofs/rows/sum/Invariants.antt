@@ -5,7 +5,7 @@ use Rattle.reflection.proofs.RowLoops.{Summing}
 use Rattle.reflection.proofs.rows.sum.Given as goal
 
 abbrev pub invariant-loop-j : goal.invariant-loop-j
-invariant-loop-j l = Summing (λ l.j. along_to l.j l.a l.n l.c0 l.t l.i) l.a l.j-end l.j l.w
+invariant-loop-j l = Summing (λ j. along_to j l.a l.n l.c0 l.t l.i) l.a l.j-end l.j l.w
 
 abbrev pub decreases-loop-j : goal.decreases-loop-j
 decreases-loop-j l = l.j-end - l.j
