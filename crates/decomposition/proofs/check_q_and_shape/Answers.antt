@@ -8,17 +8,17 @@ use Rattle.decomposition.proofs.check_q_and_shape.Goals as goal
 
 pub returns-then-not-asked : goal.returns-then-not-asked
 unfolding ◌next◌ only_if
-returns-then-not-asked c = rw (not-true c.args.asked.wanted (ap not c.if-not-asked.true))
+returns-then-not-asked c = rw (not-true c.args.asked.wanted c.if-not-asked.true)
     c.check_shape.ensures
 
 pub returns-in-Refused : goal.returns-in-Refused
 unfolding ◌next◌ only_if
-returns-in-Refused c = rw (not-false c.args.asked.wanted (ap not c.if-not-asked.false), ← c.check_result.ensures, c.in-Refused.is)
+returns-in-Refused c = rw (not-false c.args.asked.wanted c.if-not-asked.false, ← c.check_result.ensures, c.in-Refused.is)
 
 pub returns-in-Passed : goal.returns-in-Passed
 unfolding ◌next◌ only_if
 returns-in-Passed c = rw (
-      not-false c.args.asked.wanted (ap not c.if-not-asked.false),
+      not-false c.args.asked.wanted c.if-not-asked.false,
       ← c.check_result.ensures,
       c.in-Passed.is,
     ) c.check_shape-in-Passed.ensures

@@ -18,7 +18,7 @@ sizes c = all_lent _ _ _ _ _ (all_right _ _ _ _ (sym c.check_arguments.ensures �
 
 -- so T is then a copy of the matrix
 copied : (c : After-copy_from) → let x = c.args in c.copy_from.new.t ≡ x.m.now
-copied c = c.copy_from.ensures ∙ copied_whole _ _ (sizes c.before.before).alike
+copied c = c.copy_from.ensures ∙ copied_whole _ _ (all_lent _ _ _ _ _ (all_right _ _ _ _ (sym c.check_arguments.ensures ∙ c.in-Passed.is)).lent).alike
 
 pub decompose-requires : goal.decompose-requires
 decompose-requires c =
@@ -28,7 +28,11 @@ decompose-requires c =
     ap (λ k. run_fits x.asked.order k (length x.work.now)) (ap length (copied (goal.at.decompose-requires c).After-copy_from) ∙ z.alike) ∙ sizes_fit r.some r.order z
 
 pub returns-in-Refused : goal.returns-in-Refused
-returns-in-Refused c = (sym (untouched _ _ _ _ (pair _ _) _ (sym c.check_arguments.ensures ∙ c.in-Refused.is)), (tt, tt))
+returns-in-Refused c = record {
+  work_after = sym (untouched _ _ _ _ (pair _ _) _ (sym c.check_arguments.ensures ∙ c.in-Refused.is));
+  below_budget = tt;
+  shaped = tt;
+}
 
 pub returns-in-Passed : goal.returns-in-Passed
 returns-in-Passed c =
@@ -36,4 +40,5 @@ returns-in-Passed c =
     let passed = sym c.check_arguments.ensures ∙ c.in-Passed.is in
     let here = ap (λ t. judged x.asked (ran_of x.asked x.budget (pair t x.q.now) x.work.now) x.work.now) (copied (goal.at.returns-in-Passed c).After-copy_from) in
     let whole = c.decompose.ensures ∙ here ∙ sym (run_judged _ _ _ _ (pair _ _) _ passed) in
-    (whole, promised x.asked x.budget x.m.now (pair x.t.now x.q.now) x.work.now (pair _ _) whole)
+    let kept = promised x.asked x.budget x.m.now (pair x.t.now x.q.now) x.work.now (pair _ _) whole in
+    record { work_after = whole; below_budget = kept.0; shaped = kept.1 }

@@ -12,11 +12,16 @@ decompose-requires c =
     sizes_fit r.some r.order (all_lent _ _ _ _ _ r.lent)
 
 pub returns-in-Refused : goal.returns-in-Refused
-returns-in-Refused c = (sym (untouched _ _ _ _ (pair _ _) _ (sym c.check_arguments.ensures ∙ c.in-Refused.is)), (tt, tt))
+returns-in-Refused c = record {
+  work_after = sym (untouched _ _ _ _ (pair _ _) _ (sym c.check_arguments.ensures ∙ c.in-Refused.is));
+  below_budget = tt;
+  shaped = tt;
+}
 
 pub returns-in-Passed : goal.returns-in-Passed
 returns-in-Passed c =
     let x = c.args in
     let passed = sym c.check_arguments.ensures ∙ c.in-Passed.is in
     let whole = c.decompose.ensures ∙ sym (run_judged _ _ _ _ (pair _ _) _ passed) in
-    (whole, promised x.asked x.budget x.t.now (pair x.t.now x.q.now) x.work.now (pair _ _) whole)
+    let kept = promised x.asked x.budget x.t.now (pair x.t.now x.q.now) x.work.now (pair _ _) whole in
+    record { work_after = whole; below_budget = kept.0; shaped = kept.1 }

@@ -20,4 +20,7 @@ loop-k-preserved c =
     }
 
 pub returns : goal.returns
-returns c = (filled_done c.loop-k.invariant.reals (omega arith), filled_done c.loop-k.invariant.imaginaries (omega arith))
+returns c = record {
+  re_after = filled_done c.loop-k.invariant.reals (omega arith);
+  im_after = filled_done c.loop-k.invariant.imaginaries (omega arith);
+}

@@ -12,6 +12,6 @@ returns c =
     rw (
       ← c.check_blocks-checked.ensures,
       c.in-Passed.is,
-      c.do_complex_eigenvalues.ensures.0,
-      c.do_complex_eigenvalues.ensures.1,
+      c.do_complex_eigenvalues.ensures.re_after,
+      c.do_complex_eigenvalues.ensures.im_after,
     )
