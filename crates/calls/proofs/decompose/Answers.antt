@@ -4,4 +4,4 @@ use Rattle.calls.proofs.decompose.Goals as goal
 
 pub returns : goal.returns
 returns c =
-    decomposition_came _ _ _ _ _ _ _ _ _ _ _ c.try_new.ensures.0 c.decomposed.ensures
+    decomposition_came _ _ _ _ _ _ _ _ _ _ _ c.try_new.ensures.work_after c.decomposed.ensures

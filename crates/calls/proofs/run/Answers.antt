@@ -17,7 +17,7 @@ returns-in-WithoutQ c =
 
 pub returns-in-Real : goal.returns-in-Real
 returns-in-Real c =
-    real_came _ _ _ _ _ _ _ c.checked.ensures _ c.in-Real.is c.eigenvalues.ensures.0
+    real_came _ _ _ _ _ _ _ c.checked.ensures _ c.in-Real.is c.eigenvalues.ensures.values_after
 
 pub returns-in-Complex : goal.returns-in-Complex
 returns-in-Complex c =

@@ -5,11 +5,13 @@ use Rattle.door.proofs.manulsek_decompose.Goals as goal
 
 pub returns-in-Refused : goal.returns-in-Refused
 returns-in-Refused c =
-    decompose_kept _ _ _ _ _ (sym c.check_arguments.ensures ∙ c.in-Refused.is) c.refusal_number.ensures
+    let kept = decompose_kept _ _ _ _ _ (sym c.check_arguments.ensures ∙ c.in-Refused.is) c.refusal_number.ensures in
+    record { q_after = kept.0; accepted_bytes = kept.1 }
 
 pub returns-in-Passed : goal.returns-in-Passed
 returns-in-Passed c =
-    decompose_ran _ _ _ _ (sym c.check_arguments.ensures ∙ c.in-Passed.is) c.run.ensures
+    let ran = decompose_ran _ _ _ _ (sym c.check_arguments.ensures ∙ c.in-Passed.is) c.run.ensures in
+    record { q_after = ran.0; accepted_bytes = ran.1 }
 
 pub run-requires : goal.run-requires
 run-requires c = sym c.check_arguments.ensures ∙ c.in-Passed.is

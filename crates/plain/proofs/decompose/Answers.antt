@@ -7,5 +7,5 @@ use Rattle.plain.proofs.decompose.Goals as goal
 
 pub returns : goal.returns
 returns c =
-    ran_by {l = left _ _} {s = settlement _ _} _ _ _ c.requires c.do_decompose-ran.ensures.0 c.decide.ensures c.do_decompose-ran.ensures.1
+    ran_by {l = left _ _} {s = settlement _ _} _ _ _ c.requires c.do_decompose-ran.ensures.q_after c.decide.ensures c.do_decompose-ran.ensures.work_after
     (omega arith)

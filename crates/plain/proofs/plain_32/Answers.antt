@@ -7,4 +7,4 @@ plain_in-requires c =
     let pre = c.requires in (pre.sized, mul-le-mul pre.most pre.most)
 
 pub returns : goal.returns
-returns c = after_plain_in.Plain-in.ensures
+returns c = c.plain_in.ensures

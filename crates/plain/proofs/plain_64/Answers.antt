@@ -7,4 +7,4 @@ plain_in-requires c =
     let pre = c.requires in (pre, mul-le-mul pre.order pre.order)
 
 pub returns : goal.returns
-returns c = after_plain_in.Plain-in.ensures
+returns c = c.plain_in.ensures

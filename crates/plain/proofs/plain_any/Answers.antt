@@ -9,7 +9,7 @@ use Rattle.plain.proofs.plain_any.Goals as goal
 pub returns-then-n-eq2 : goal.returns-then-n-eq2
 returns-then-n-eq2 c =
     let two = c.plain_two.ensures in
-    begun_two (in_place _ _ _ _) _ _ _ _ done.before.before.before.before.if1.taken two.told refl two.cleared
+    begun_two (in_place _ _ _ _) _ _ _ _ c.if-n-eq2.true two.told refl two.cleared
 
 pub returns : goal.returns
 returns c =
@@ -17,4 +17,4 @@ returns c =
     begun_run (in_place _ _ _ _) _ _ _ _ c.if-n-eq2.false ran.told ran.left ran.cleared
 
 pub plain_two-requires : goal.plain_two-requires
-plain_two-requires c = omega (arith, ap (λ k. k * k) c.before.before.before.if1.true)
+plain_two-requires c = omega (arith, ap (λ k. k * k) c.if-n-eq2.true)

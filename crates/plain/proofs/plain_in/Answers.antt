@@ -17,7 +17,7 @@ plain_copied-requires c =
 
 pub returns : goal.returns
 returns c =
-    after_plain_copied.plain_Copied.ensures
+    c.plain_copied.ensures
 
 pub overflow_mul-n : goal.overflow_mul-n
 overflow_mul-n c = omega (arith, square_64 c.args.n (omega arith))

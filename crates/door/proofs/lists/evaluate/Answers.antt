@@ -12,7 +12,7 @@ returns-in-Real c =
 pub returns-in-Complex : goal.returns-in-Complex
 unfolding evaluated_by
 returns-in-Complex c =
-    rw came.before.before.before.before.enum-told2.given.1
+    rw c.in-Complex.is
     (ap (λ r. evaluated r.answer r.re r.im) c.complex_eigenvalues_of_finite.ensures)
 
 pub returns-in-Plain : goal.returns-in-Plain

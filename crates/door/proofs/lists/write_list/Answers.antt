@@ -6,7 +6,7 @@ use Rattle.door.proofs.lists.write_list.Goals as goal
 pub returns : goal.returns
 unfolding if_passed
 returns c =
-    rw c.in-Passed.is (encoded _ c.args.b.now c.encode.ensures.0 c.requires)
+    rw c.in-Passed.is (encoded _ c.args.b.now c.encode.ensures.b_after c.requires)
 
 pub returns-in_default : goal.returns-in_default
 unfolding if_passed

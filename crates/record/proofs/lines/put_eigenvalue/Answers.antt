@@ -17,8 +17,8 @@ pub returns : goal.returns
 unfolding eigenvalue_line ascii
 returns c =
     line_put c.put-a.ensures c.put_number-b.ensures
-    (put_as (ap pattern c.bits_of.ensures.0) c.put_pattern-c.ensures)
-    (put_as (ap pattern c.bits_of-2.ensures.0) c.put_pattern-d.ensures) c.put_byte.ensures
+    (put_as (ap pattern c.bits_of.ensures.value) c.put_pattern-c.ensures)
+    (put_as (ap pattern c.bits_of-2.ensures.value) c.put_pattern-d.ensures) c.put_byte.ensures
     (omega (arith, digits (goal.at.returns c).Start))
 
 pub bits_of-requires : goal.bits_of-requires

@@ -17,7 +17,7 @@ pub returns : goal.returns
 unfolding entry_line
 returns c =
     line_put c.put_byte-a.ensures c.put_number-b.ensures c.put_number-c.ensures
-    (put_as (ap pattern c.bits_of.ensures.0) c.put_pattern-d.ensures) c.put_byte.ensures
+    (put_as (ap pattern c.bits_of.ensures.value) c.put_pattern-d.ensures) c.put_byte.ensures
     (omega (arith, digits (goal.at.returns c).Start))
 
 pub put_number-b-requires : goal.put_number-b-requires

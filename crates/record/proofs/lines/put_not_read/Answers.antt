@@ -6,4 +6,4 @@ use Rattle.record.proofs.lines.put_not_read.Goals as goal
 pub returns : goal.returns
 unfolding ascii
 returns c =
-    both_put c.put-behind.ensures c.before.before.Put-refused.ensures
+    both_put c.put-behind.ensures c.put_refused.ensures

@@ -22,35 +22,40 @@ entries : (b : List ℕ) → take (length b - 20) (drop 20 b) ≡ drop 20 b
 entries b = take_all (length b - 20) (drop 20 b) (omega (arith, length-drop 20 b))
 
 -- the text by what was found of the header
-text-by : {x : Examined} (b : List ℕ) → x ≡ examined b → examined_text x b ≡ text_of b
+text_by : {x : Examined} (b : List ℕ) → x ≡ examined b → examined_text x b ≡ text_of b
 unfolding text_of
-text-by b e = ap (λ x. examined_text x b) e
+text_by b e = ap (λ x. examined_text x b) e
 
 pub put_passed-requires : goal.put_passed-requires
 put_passed-requires c =
     let b = c.args.input.now in
     let f = fit (goal.at.put_passed-requires c).In-Fit-2 in
-    record { room = omega arith; order = f.order; returns-in-Fit = rw (entries b) (omega (arith, length-drop 20 b)) }
+    record { room = omega arith; order = f.order; whole = rw (entries b) (omega (arith, length-drop 20 b)) }
 
 pub returns-then-text-lt65536 : goal.returns-then-text-lt65536
-returns-then-text-lt65536 c = (none_printed _ c.args.text.now c.if-text-lt65536.true, (omega arith, refl))
+returns-then-text-lt65536 c = record {
+  text_after = none_printed _ c.args.text.now c.if-text-lt65536.true;
+  prefix_len = (omega arith, refl);
+}
 
 pub returns-in-Unfit : goal.returns-in-Unfit
 unfolding examined_text
 returns-in-Unfit c =
-    (
-      all_printed (omega arith)
-          (put_as (text-by _ (sym c.in-Unfit.is ∙ c.examine.ensures)) (put_within (omega arith) put.Put-refused.ensures)),
-      (omega arith, sym (length-take-le _ _ (omega arith))),
-    )
+    record {
+      text_after =
+          all_printed (omega arith)
+          (put_as (text_by _ (sym c.in-Unfit.is ∙ c.examine.ensures)) (put_within (omega arith) c.put_refused.ensures));
+      prefix_len = (omega arith, sym (length-take-le _ _ (omega arith)));
+    }
 
 pub returns-in-Fit : goal.returns-in-Fit
 unfolding examined_text
 returns-in-Fit c =
-    (
-      all_printed (omega arith) (put_as (text-by _ (sym c.in-Fit.is ∙ c.examine.ensures)) (rw entries at c.put_passed.ensures)),
-      (omega arith, sym (length-take-le _ _ (omega arith))),
-    )
+    record {
+      text_after =
+          all_printed (omega arith) (put_as (text_by _ (sym c.in-Fit.is ∙ c.examine.ensures)) (rw entries at c.put_passed.ensures));
+      prefix_len = (omega arith, sym (length-take-le _ _ (omega arith)));
+    }
 
 pub slice_bounds-put_passed-count : goal.slice_bounds-put_passed-count
 slice_bounds-put_passed-count c = omega (arith, fit (goal.at.slice_bounds-put_passed-count c).In-Fit-2)

@@ -9,4 +9,4 @@ returns c =
     let x = c.args in
     let pre = c.requires in
     rw (c.of_bits.ensures, decoded x.entries.now x.t.now _ pre.whole pre.square_t c.decode.ensures, pre.zero_q, pre.zero_work)
-    at c.try_new_in_place.ensures.0
+    at c.try_new_in_place.ensures.work_after

@@ -12,4 +12,4 @@ returns-in-Accepted c =
 pub returns-in-Declined : goal.returns-in-Declined
 unfolding decomposed_text
 returns-in-Declined c =
-    rw c.in-Declined.is (put_within (omega arith) c.before.before.Put-refused.ensures)
+    rw c.in-Declined.is (put_within (omega arith) c.put_refused.ensures)
