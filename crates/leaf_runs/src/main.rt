@@ -6,6 +6,7 @@
 // docs/SUMS.md where that has none, never by this program: `oracle/run leaves` makes it again and compares,
 // `oracle/run leaves --write` stores it.
 #![tactic(auto)]
+
 mod case;
 mod draw;
 mod read;
@@ -16,14 +17,14 @@ mod say;
 mod slices;
 mod vectors;
 
-use libc::STDIN_FILENO;
+const STDIN: i32 = 0;
 
 // Every name stands in the list below. A line of it has the places of its calls' numbers (`case::case_of`), a digit for
 // each, in their order, then a space and the names, each behind a |. The functions of `case` go by the line, counted
 // from 0, and those that they call by the name's place in the line, counted from 1.
 fn main() {
     let mut text = io::large_buffer();
-    let n = io::read_full(STDIN_FILENO, &mut text);
+    let n = io::read_full(STDIN, &mut text);
     read::lines(
         &text[..n],
         b"17 |normalize_mut|scale_mut|unscale_mut|fill|reflection_axis_mut

@@ -1,6 +1,6 @@
 // The calls of a text: one to a line, its name, then its whole numbers, each behind one space. Blank lines and lines
 // that begin with # are left out.
-ghost use Rattle.std.specs.Prelude.{◌≤◌, ◌<◌, length};
+ghost use Rattle.std.specs.Prelude.{◌≡◌, ◌≢◌, ℕ, ◌≤◌, ◌<◌, length, slice_index};
 
 use crate::case::case_of;
 use crate::say::{whole, word};
@@ -15,12 +15,29 @@ struct Found {
     to: usize,
 }
 
+// The first place of a byte from `from` on and before `to`; `to` where there is none.
+fn find_byte(text: &[u8], from: usize, to: usize, byte: u8) -> usize
+    requires order { from ≤ to }
+    requires in_bounds { to ≤ length text.now }
+    ensures low { from ≤ result }
+    ensures high { result ≤ to }
+    ensures before { (k : ℕ) → from ≤ k → k < result → slice_index text.now k ≢ byte }
+    ensures found { result < to → slice_index text.now result ≡ byte }
+{
+    for i in from..to {
+        if text[i] == byte {
+            return i;
+        }
+    }
+    to
+}
+
 // Which of some names, each behind a |, this one is: 1 for the first, 0 for none.
 fn which(name: &[u8], names: &[u8]) -> usize {
     let mut at = 0;
     let mut k = 0;
     while at < names.len() {
-        let end = bytes::scan::find(names, at, names.len(), b'|');
+        let end = find_byte(names, at, names.len(), b'|');
         if check::same(name, &names[at..end]) {
             return k;
         }
@@ -37,8 +54,8 @@ fn find(name: &[u8], list: &[u8]) -> Found
     let mut at = 0;
     let mut group = 0;
     while at < list.len() {
-        let end = bytes::scan::find(list, at, list.len(), b'\n');
-        let to = bytes::scan::find(list, at, end, b' ');
+        let end = find_byte(list, at, list.len(), b'\n');
+        let to = find_byte(list, at, end, b' ');
         let k = which(name, &list[to..end]);
         if 0 < k {
             return Found {
@@ -165,7 +182,7 @@ pub(crate) fn lines(text: &[u8], list: &[u8]) {
     let mut at = 0;
     let mut number = 0;
     while at < text.len() {
-        let end = bytes::scan::find(text, at, text.len(), b'\n');
+        let end = find_byte(text, at, text.len(), b'\n');
         number += 1;
         read_line(&text[at..end], number, list);
         at = end + 1;

@@ -1,13 +1,14 @@
 // The parts of a line.
-use libc::STDOUT_FILENO;
+
+const STDOUT: i32 = 1;
 
 pub(crate) fn word(w: &[u8]) {
-    io::write_all(STDOUT_FILENO, w);
+    io::write_all(STDOUT, w);
 }
 
 pub(crate) fn whole(n: usize) {
     word(b" ");
-    io::print_decimal(STDOUT_FILENO, n as u64);
+    io::print_decimal(STDOUT, n as u64);
 }
 
 pub(crate) fn flag(b: bool) {
@@ -16,7 +17,7 @@ pub(crate) fn flag(b: bool) {
 
 pub(crate) fn number(x: f64) {
     word(b" ");
-    io::print_hex(STDOUT_FILENO, scalar::bits_of(x), 16);
+    io::print_hex(STDOUT, scalar::bits_of(x), 16);
 }
 
 pub(crate) fn numbers(v: &[f64]) {

@@ -4,7 +4,8 @@ use crate::met::more;
 use crate::say::word;
 use crate::unpack::wide;
 use crate::{case, met, say, slots, unpack};
-use libc::STDIN_FILENO;
+
+const STDIN: i32 = 0;
 
 // More records than a list has.
 const MOST: usize = 1000000;
@@ -30,7 +31,7 @@ struct Sums {
 // The head of the next record.
 fn next() -> Head {
     let mut b = [0u8; 8];
-    if io::read_full(STDIN_FILENO, &mut b) < 8 {
+    if io::read_full(STDIN, &mut b) < 8 {
         return Head {
             kind: 0,
             small: 0,
@@ -132,7 +133,7 @@ fn record(h: Head, room: &mut [u8], slots: &mut [f64], counts: &mut [u64], s: Su
     if room.len() < size {
         return not_understood(s);
     }
-    if io::read_full(STDIN_FILENO, &mut room[0..size]) < size {
+    if io::read_full(STDIN, &mut room[0..size]) < size {
         return not_understood(s);
     }
     mean(h, &room[0..size], slots, counts, s)

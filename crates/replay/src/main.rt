@@ -25,6 +25,7 @@
 //        the place of slot 5 from which each of the three is filled before the call; behind its last place comes
 //          its first again
 #![tactic(auto)]
+
 mod answer;
 mod case;
 mod expected;

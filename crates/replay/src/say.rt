@@ -1,13 +1,14 @@
 // The parts of a line.
 use crate::answer::Stored;
-use libc::STDOUT_FILENO;
+
+const STDOUT: i32 = 1;
 
 pub(crate) fn word(w: &[u8]) {
-    io::write_all(STDOUT_FILENO, w);
+    io::write_all(STDOUT, w);
 }
 
 pub(crate) fn whole(n: u64) {
-    io::print_decimal(STDOUT_FILENO, n);
+    io::print_decimal(STDOUT, n);
 }
 
 fn after_space(n: u64) {

@@ -2,7 +2,8 @@
 // signum, modulus, magnitude and sign of to_exp, all by their bits, then 1 or 0 for finite and for zero.
 // The file stdout beside src/ is what the Rust functions answer (`oracle/run scalar` makes it again and compares).
 #![tactic(auto)]
-use libc::STDOUT_FILENO;
+
+const STDOUT: i32 = 1;
 
 const PATTERNS: [u64; 55] = [
     // zeros, the smallest and the largest subnormal, the smallest normal
@@ -70,22 +71,22 @@ const PATTERNS: [u64; 55] = [
 ];
 
 fn column(w: u64) {
-    io::write_all(STDOUT_FILENO, b" ");
-    io::print_hex(STDOUT_FILENO, w, 16);
+    io::write_all(STDOUT, b" ");
+    io::print_hex(STDOUT, w, 16);
 }
 
 fn flag(b: bool) {
     if b {
-        io::write_all(STDOUT_FILENO, b" 1");
+        io::write_all(STDOUT, b" 1");
     } else {
-        io::write_all(STDOUT_FILENO, b" 0");
+        io::write_all(STDOUT, b" 0");
     }
 }
 
 fn line(w: u64) {
     let x = scalar::of_bits(w);
     let e = scalar::to_exp(x);
-    io::print_hex(STDOUT_FILENO, w, 16);
+    io::print_hex(STDOUT, w, 16);
     column(scalar::sqrt_bits(w));
     column(scalar::bits_of(scalar::signum(x)));
     column(scalar::bits_of(scalar::modulus(x)));
@@ -93,12 +94,12 @@ fn line(w: u64) {
     column(scalar::bits_of(e.sign));
     flag(scalar::is_finite(x));
     flag(scalar::is_zero(x));
-    io::write_all(STDOUT_FILENO, b"\n");
+    io::write_all(STDOUT, b"\n");
 }
 
 fn main() {
     io::write_all(
-        STDOUT_FILENO,
+        STDOUT,
         b"pattern sqrt signum modulus magnitude sign finite zero\n",
     );
     for i in 0..55 {
