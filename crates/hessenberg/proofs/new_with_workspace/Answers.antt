@@ -1,7 +1,8 @@
 -- `hessenberg::new_with_workspace` meets its contract. Assumes nothing.
 use mathlib.Core.Path.{◌≡◌, sym, ◌∙◌}
-use Prim.Native.Nat.{◌-◌}
 use native.Mathlib.Omega.{arith}
+use Prim.Native.Nat.{◌*◌}
+use borrow.Author.Tests.{eqb-true}
 use lib.ListN.{length}
 use Rattle.loops.specs.Times.{times_none, times_more, times_done}
 use Rattle.matrix.specs.Fits.{block_fits}
@@ -10,8 +11,7 @@ use Rattle.hessenberg.specs.Reduced.{reduce_column, work_fits, reduced}
 use Rattle.hessenberg.proofs.Empty.{reduced_empty}
 use Rattle.std.specs.Prelude.{not}
 use Rattle.std.proofs.Common.{ap}
-use Rattle.hessenberg.proofs.new_with_workspace.Invariants.{room}
-use Rattle.hessenberg.proofs.new_with_workspace.Goals.{After-block_fits, Else-not-block_fits}
+use Rattle.hessenberg.proofs.new_with_workspace.Goals.{After-block_fits, Else-not-block_fits, Else-not-work_fits}
 use Rattle.hessenberg.proofs.new_with_workspace.Goals as goal
 
 -- the tests of the matrix and of the workspace
@@ -20,7 +20,10 @@ first : (c : After-block_fits) → let x = c.args in
 first c = from_row_0 _ _ _ _ (from_column_0 _ _ _ _ c.block_fits.ensures)
 
 fitted : (c : Else-not-block_fits) → let x = c.args in Fits x.n (length x.hess.now) x.n x.n
-fitted c = within _ _ _ _ (first c.before) (ap not c.if-not-block_fits.false)
+fitted c = within _ _ _ _ (from_row_0 _ _ _ _ (from_column_0 _ _ _ _ c.block_fits.ensures)) (ap not c.if-not-block_fits.false)
+
+room : (c : Else-not-work_fits) → let x = c.args in length x.work.now ≡ 2 * x.n
+room c = eqb-true _ _ (inside c.work_fits.ensures (ap not c.if-not-work_fits.false))
 
 pub returns-then-not-block_fits : goal.returns-then-not-block_fits
 unfolding reduced
