@@ -1,5 +1,6 @@
 // Sums and building stones on a matrix that lies column by column in one slice.
 #![tactic(auto)]
+
 mod blas;
 mod block;
 mod edition;

@@ -1,6 +1,7 @@
 // f64 by itself: the square root, sign and magnitude, tests for zero and for finite, and the way to
 // and from bit patterns.
 #![tactic(auto)]
+
 mod bits;
 mod class;
 mod guess;

@@ -1,5 +1,5 @@
 -- Numbers in two words: a square from halves, big_x from its top, and a sum word by word. Assumes nothing.
-use Rattle.std.proofs.Common.{◌≡◌, ℕ, ◌+◌, ◌-◌, ◌*◌, ◌/◌, ◌%◌, ◌^◌, ◌<◌, ◌≤◌, sym, ap, ◌∙◌, le_refl, lt_of_lt_of_le, mod-eq_of_lt, mul-le-mul, arith, pow_mono}
+use Rattle.std.proofs.Common.{◌≡◌, ℕ, ◌+◌, ◌*◌, ◌/◌, ◌%◌, ◌^◌, ◌<◌, ◌≤◌, sym, ap, ◌∙◌, le_refl, lt_of_lt_of_le, mod-eq_of_lt, mul-le-mul, arith, pow_mono}
 use native.Mathlib.Nat.{add-mul-mod_self_right}
 use Rattle.scalar.specs.Inner.{value_of}
 

@@ -21,4 +21,6 @@ then_diagonal-requires c =
 pub returns : goal.returns
 unfolding real_read real_checks
 returns c =
-    real_held _ _ _ _ _ (rw (told (goal.at.returns c).After-readable-checked) at c.then_diagonal.ensures)
+    let x = c.args in
+    let held = real_held x.n x.t.now x.values.now _ _ (rw (told (goal.at.returns c).After-readable-checked) at c.then_diagonal.ensures) in
+    record { values_after = held.0; real_answer = held.1 }

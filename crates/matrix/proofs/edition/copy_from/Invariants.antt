@@ -5,7 +5,6 @@ use Prim.Native.Nat.{ℕ, ◌-◌}
 use lib.ListN.{length}
 use lib.Ieee.{Float}
 use Rattle.loops.specs.Rounded.{◌!◌}
-use Rattle.matrix.specs.Vectors.{copied}
 use Rattle.matrix.proofs.Each.{Rewriting}
 use Rattle.matrix.proofs.edition.copy_from.Given as goal
 

@@ -1,5 +1,4 @@
 -- `matrix::edition::fill` meets its contract. Assumes nothing.
-use Prim.Native.Nat.{◌-◌}
 use native.Mathlib.Omega.{arith}
 use Rattle.matrix.specs.Vectors.{filled}
 use Rattle.matrix.proofs.Each.{rewriting_none, rewriting_more, rewriting_done}

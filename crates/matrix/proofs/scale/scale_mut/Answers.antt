@@ -1,5 +1,4 @@
 -- `matrix::scale::scale_mut` meets its contract. Assumes nothing.
-use Prim.Native.Nat.{◌-◌}
 use native.Mathlib.Omega.{arith}
 use Rattle.matrix.specs.Vectors.{scaled}
 use Rattle.matrix.proofs.Each.{rewriting_none, rewriting_more, rewriting_done}

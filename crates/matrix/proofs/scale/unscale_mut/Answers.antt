@@ -1,5 +1,4 @@
 -- `matrix::scale::unscale_mut` meets its contract. Assumes nothing.
-use Prim.Native.Nat.{◌-◌}
 use native.Mathlib.Omega.{arith}
 use Rattle.matrix.specs.Vectors.{unscaled}
 use Rattle.matrix.proofs.Each.{rewriting_none, rewriting_more, rewriting_done}

@@ -1,6 +1,5 @@
 -- `reflection::columns::axpy` meets its contract. Assumes nothing.
 use mathlib.Core.Path.{sym, ◌∙◌}
-use Prim.Native.Nat.{◌-◌}
 use native.Mathlib.Omega.{arith}
 use lib.ListN.{length-set}
 use Rattle.loops.specs.Times.{times_none, times_more, times_done}

@@ -1,5 +1,4 @@
 -- `reflection::columns::reflect_with_sign` meets its contract. Assumes nothing.
-use Prim.Native.Nat.{◌-◌}
 use native.Mathlib.Omega.{arith}
 use Rattle.loops.specs.Place.{Column, column}
 use Rattle.matrix.proofs.Walks.{down_refused, down_begun, down_more, down_done}

@@ -1,5 +1,4 @@
 -- `reflection::rows::eight_rows` meets its contract. Assumes nothing.
-use Prim.Native.Nat.{◌-◌}
 use native.Mathlib.Omega.{arith}
 use Rattle.reflection.proofs.RowLoops.{putting_begun, putting_more, putting_done}
 use Rattle.reflection.proofs.RowTurn.{eight_turn}

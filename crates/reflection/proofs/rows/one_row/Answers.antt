@@ -1,5 +1,4 @@
 -- `reflection::rows::one_row` meets its contract. Assumes nothing.
-use Prim.Native.Nat.{◌-◌}
 use native.Mathlib.Omega.{arith}
 use lib.ListN.{length-set}
 use Rattle.reflection.proofs.RowLoops.{putting_begun, putting_more, putting_done}

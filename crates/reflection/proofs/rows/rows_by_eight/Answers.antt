@@ -1,6 +1,6 @@
 -- `reflection::rows::rows_by_eight` meets its contract. Assumes nothing.
 use mathlib.Core.Path.{◌≡◌}
-use Prim.Native.Nat.{◌+◌, ◌*◌, ◌-◌}
+use Prim.Native.Nat.{◌+◌, ◌*◌}
 use native.Mathlib.Omega.{arith}
 use Rattle.reflection.proofs.RowLoops.{taking_begun, taking_more, taking_done}
 use Rattle.reflection.proofs.rows.rows_by_eight.Goals as goal

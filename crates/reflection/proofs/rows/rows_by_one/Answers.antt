@@ -1,5 +1,4 @@
 -- `reflection::rows::rows_by_one` meets its contract. Assumes nothing.
-use Prim.Native.Nat.{◌-◌}
 use native.Mathlib.Omega.{arith}
 use Rattle.reflection.proofs.RowLoops.{taking_begun, taking_more, taking_done}
 use Rattle.reflection.proofs.rows.rows_by_one.Goals as goal

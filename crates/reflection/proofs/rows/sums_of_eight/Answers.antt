@@ -1,6 +1,5 @@
 -- `reflection::rows::sums_of_eight` meets its contract. Assumes nothing.
 use mathlib.Core.Path.{refl, ◌∙◌}
-use Prim.Native.Nat.{◌-◌}
 use native.Mathlib.Omega.{arith}
 use Rattle.reflection.proofs.RowSums.{eight_one, eight_more, eight_done}
 use Rattle.reflection.proofs.RowLoops.{summing_begun, summing_more, summing_done}

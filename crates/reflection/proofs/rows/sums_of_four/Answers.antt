@@ -1,6 +1,5 @@
 -- `reflection::rows::sums_of_four` meets its contract. Assumes nothing.
 use mathlib.Core.Path.{refl, ◌∙◌}
-use Prim.Native.Nat.{◌-◌}
 use native.Mathlib.Omega.{arith}
 use Rattle.reflection.proofs.RowSums.{four_one, four_more, four_done}
 use Rattle.reflection.proofs.RowLoops.{summing_begun, summing_more, summing_done}

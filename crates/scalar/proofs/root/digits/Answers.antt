@@ -1,6 +1,6 @@
 -- `scalar::root::digits` meets its contract. After k digits root * root + rem is the whole part of X's first 2 * k digits (`Digits`); after
 -- 53 it is big_x itself, and what is left over decides the rounding. Assumes nothing.
-use Rattle.std.proofs.Common.{◌-◌, arith}
+use Rattle.std.proofs.Common.{arith}
 use Rattle.scalar.proofs.root.Steps.{digits_none, digits_one, digits_zero, digits_all, rest_up, rest_down}
 use Rattle.scalar.proofs.root.digits.Goals.{then-trial-next, else-trial-next}
 use Rattle.scalar.proofs.root.digits.Goals as goal
@@ -8,7 +8,7 @@ use Rattle.scalar.proofs.root.digits.Goals as goal
 pub loop-k-preserved : goal.loop-k-preserved
 loop-k-preserved c =
     let d = c.loop-k.invariant in elim c.if-trial-next.branch [
-      then-trial-next w ↦ rw (w.rem-is, w.root-is) (digits_one _ _ _ _ _ d (omega arith) w.if-trial-next.true)
+      | then-trial-next w ↦ rw (w.rem-is, w.root-is) (digits_one _ _ _ _ _ d (omega arith) w.if-trial-next.true)
       | else-trial-next w ↦ rw (w.rem-is, w.root-is) (digits_zero _ _ _ _ _ d (omega arith) w.if-trial-next.false)
     ]
 
