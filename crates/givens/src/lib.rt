@@ -1,6 +1,7 @@
 // Givens rotations by value, and what they do to rows and columns of a matrix that lies column by
 // column in one slice.
 #![tactic(auto)]
+
 ghost use Rattle.std.specs.Prelude.{◌≡◌, ◌+◌, ◌*◌, ◌<◌, ◌≤◌};
 ghost use Rattle.givens.specs.Rotation.{identity_of, inverse_of, try_new, new_of, cancel_y};
 ghost use Rattle.givens.specs.Rotated.{rotated, rotated_rows};

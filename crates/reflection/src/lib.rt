@@ -2,6 +2,7 @@
 // Rust's `Reflection` wraps an axis; here the axis travels as a plain slice, or by value where it has
 // two or three numbers. Its bias is 0 in every use and is left out.
 #![tactic(auto)]
+
 mod columns;
 mod place;
 mod rows;

@@ -1,5 +1,6 @@
 // The window that the next pass works on: delimiting. A matrix of order n lies column by column in one slice.
 #![tactic(auto)]
+
 ghost use Rattle.std.specs.Prelude.{◌≡◌, length, ◌*◌, ◌<◌, ◌≤◌};
 ghost use Rattle.window.specs.Window.{small, cut, delimited, delimit_here, delimit_of};
 ghost use Rattle.window.specs.Inner.{EndFound, StartFound};

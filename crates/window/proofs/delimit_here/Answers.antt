@@ -8,15 +8,15 @@ returns-then-e-eq0 c = (delimit_closed _ _ _ _ _ _ c.delimit_end-e.ensures.falle
 
 pub returns-then-s-gt0 : goal.returns-then-s-gt0
 returns-then-s-gt0 c = (
-      rw c.put.ensures (delimit_cut _ _ _ _ _ _ _ c.delimit_end-e.ensures.fallen
-          c.delimit_start-s.ensures.is (omega arith)),
-      omega arith,
-      omega arith,
-    )
+  rw c.put.ensures (delimit_cut _ _ _ _ _ _ _ c.delimit_end-e.ensures.fallen
+      c.delimit_start-s.ensures.is (omega arith)),
+  omega arith,
+  omega arith,
+)
 
 pub returns-else-s-gt0 : goal.returns-else-s-gt0
 returns-else-s-gt0 c = (
-      delimit_open _ _ _ _ _ _ _ c.delimit_end-e.ensures.fallen c.delimit_start-s.ensures.is (omega arith),
-      omega arith,
-      omega arith,
-    )
+  delimit_open _ _ _ _ _ _ _ c.delimit_end-e.ensures.fallen c.delimit_start-s.ensures.is (omega arith),
+  omega arith,
+  omega arith,
+)

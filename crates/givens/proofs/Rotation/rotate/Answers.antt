@@ -1,5 +1,4 @@
 -- `givens::Rotation::rotate` meets its contract. Assumes nothing.
-use Prim.Native.Nat.{◌-◌}
 use native.Mathlib.Omega.{arith}
 use lib.ListN.{length-set}
 use Rattle.matrix.proofs.Walks.{down_refused, down_begun, down_more, down_done}

@@ -1,5 +1,4 @@
 -- `givens::Rotation::rotate_rows` meets its contract. Assumes nothing.
-use Prim.Native.Nat.{◌-◌}
 use native.Mathlib.Omega.{arith}
 use lib.ListN.{length-set}
 use Rattle.matrix.proofs.Walks.{across_refused, across_begun, across_more, across_done}
