@@ -1,20 +1,25 @@
 // Reads one record from standard input and prints its text (document 01, "The program"): T, Q and the eigenvalues of
 // the matrix, or why it is refused. What is printed for which bytes is said by `text_of`
-// (crates/record/specs/Answer.antt). A read or a write that fails is told on standard error: a program of this language
-// has no exit status to give.
+// (crates/record/specs/Answer.antt). A read or a write that fails is told on standard error, with the system's words,
+// and the exit status is 0 all the same; it is 1 only where standard error takes nothing either.
 #![tactic(auto)]
-use libc::{STDIN_FILENO, STDOUT_FILENO};
-use reading::Filled;
 
-fn main() {
+use reading::Filled;
+use std::io;
+use std::io::Write;
+
+fn main(rt: HostRuntime) -> io::Result<()> {
     let mut input = record::room();
-    let Filled::Bytes(k) = reading::fill(STDIN_FILENO, &mut input) else {
-        os::fail(b"looproots: standard input was not read");
-        return;
+    let k = match reading::fill(&mut rt.stdin(), &mut input) {
+        Filled::Bytes(k) => k,
+        Filled::Failed(e) => {
+            return eprintln!(rt; "looproots: standard input was not read: {e}");
+        }
     };
-    let mut text = io::large_buffer();
+    let mut text = [0; 65536];
     let n = record::answer(&input[..k], &mut text);
-    if !io::write_all(STDOUT_FILENO, &text[..n]) {
-        os::fail(b"looproots: standard output was not written");
+    match rt.stdout().write_all(&text[..n]) {
+        Ok(()) => Ok(()),
+        Err(e) => eprintln!(rt; "looproots: standard output was not written: {e}"),
     }
 }

@@ -3,43 +3,45 @@
 // printed for them, `stdout`, come from the Rust crate and from document 01, never from this program:
 // `oracle/run records` makes them again and compares, `oracle/run records --write` stores them.
 #![tactic(auto)]
-use libc::STDOUT_FILENO;
+
 use reading::Filled;
+use std::fs::File;
+use std::io::Write;
+use std::{env, io};
 
-fn say(text: &[u8]) {
-    if !io::write_all(STDOUT_FILENO, text) {
-        os::fail(b"looproots_runs: standard output was not written");
+fn say(rt: &HostRuntime, text: &[u8]) -> io::Result<()> {
+    match rt.stdout().write_all(text) {
+        Ok(()) => Ok(()),
+        Err(e) => eprintln!(rt; "looproots_runs: standard output was not written: {e}"),
     }
 }
 
-// The text of the record that a descriptor brings.
-fn answer(fd: i32) {
+// The text of the record that a file holds.
+fn answer(rt: &HostRuntime, file: &mut File) -> io::Result<()> {
     let mut input = record::room();
-    let Filled::Bytes(k) = reading::fill(fd, &mut input) else {
-        os::fail(b"looproots_runs: a file was not read");
-        return;
+    let k = match reading::fill(file, &mut input) {
+        Filled::Bytes(k) => k,
+        Filled::Failed(e) => {
+            return eprintln!(rt; "looproots_runs: a file was not read: {e}");
+        }
     };
-    let mut text = io::large_buffer();
+    let mut text = [0; 65536];
     let n = record::answer(&input[..k], &mut text);
-    say(&text[..n]);
+    say(rt, &text[..n])
 }
 
-fn file(i: usize) {
-    let mut name = io::buffer();
-    let n = os::arg(i, &mut name);
-    say(&name[..n]);
-    say(b":\n");
-    let fd = os::open_read(&name[..n]);
-    if fd < 0 {
-        os::fail(&name[..n]);
-        return;
+fn file(rt: &HostRuntime, name: &str) -> io::Result<()> {
+    say(rt, name.as_bytes())?;
+    say(rt, b":\n")?;
+    match File::open(rt, name) {
+        Ok(mut file) => answer(rt, &mut file),
+        Err(e) => eprintln!(rt; "{name}: {e}"),
     }
-    answer(fd);
-    libc::close(fd);
 }
 
-fn main() {
-    for i in 1..os::arg_count() {
-        file(i);
+fn main(rt: HostRuntime) -> io::Result<()> {
+    for name in env::args(&rt)?.skip(1) {
+        file(&rt, &name)?;
     }
+    Ok(())
 }

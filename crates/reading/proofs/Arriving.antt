@@ -1,51 +1,38 @@
--- What one read comes to, by what the machine has tested of its answer. Assumes nothing.
-use Prim.Native.Nat.{ℕ, zero, suc, ◌+◌, ◌<◌, ◌≤◌, min}
-use mathlib.Core.Path.{◌≡◌, refl, ap, subst}
-use mathlib.Core.Logic.{◌≢◌}
-use mathlib.Core.Bool.{true, false}
-use native.Mathlib.Omega.{arith}
-use borrow.Author.Tests.{ltb-true}
-use lib.Dec.{T}
-use lib.IntN.{ℤ, pos, negsuc, nat_abs}
-use lib.Signed.{lt_z, non_neg}
+-- What one read comes to, by what is tested of its answer. Assumes nothing.
+use Rattle.std.proofs.Common.{◌≡◌, ℕ, zero, suc, ◌+◌, ◌<◌, ◌≤◌, min, refl, ap, arith}
+use Rattle.std.specs.Prelude.{◌≢◌, Ok, Err}
+use Rattle.std.specs.declared.result.Result.{Result}
+use Rattle.std.specs.declared.io.Error.{Error}
 use Rattle.reading.specs.declared.Reading.TheVariants.{More, End, Broken}
 use Rattle.reading.specs.Reading.{after_read}
 
-pub not_below : (z : ℤ) → lt_z z (pos 0) ≡ false → T (non_neg z)
-not_below (pos n) e = tt
-not_below (negsuc n) e = subst T e tt
-
 module _ (done room : ℕ) where
-  pub broken : (z : ℤ) → lt_z z (pos 0) ≡ true → Broken ≡ after_read done room z
+  pub broken : (e : Error) → Broken e ≡ after_read done room (Err e)
   unfolding after_read
-  broken (pos n) e = absurd (let none = ltb-true n 0 e in omega arith)
-  broken (negsuc n) e = refl
+  broken e = refl
 
-  pub ended : (z : ℤ) → T (non_neg z) → nat_abs z ≡ 0 → End ≡ after_read done room z
+  pub ended : (n : ℕ) → n ≡ 0 → End ≡ after_read done room (Ok n)
   unfolding after_read
-  ended (pos zero) t e = refl
-  ended (pos (suc n)) t e = absurd (omega arith)
-  ended (negsuc n) t e = absurd t
+  ended zero e = refl
+  ended (suc n) e = absurd (omega arith)
 
-  pub some_came : (z : ℤ) → T (non_neg z) → nat_abs z ≢ 0 → nat_abs z < room → More (done + nat_abs z) ≡ after_read done room z
+  pub some_came : (n : ℕ) → n ≢ 0 → n < room → More (done + n) ≡ after_read done room (Ok n)
   unfolding after_read
-  some_came (pos zero) t e h = absurd (e refl)
-  some_came (pos (suc n)) t e h = let m : suc n ≡ min (suc n) room = omega arith in ap (λ k. More (done + k)) m
-  some_came (negsuc n) t e h = absurd t
+  some_came zero e h = absurd (e refl)
+  some_came (suc n) e h = let m : suc n ≡ min (suc n) room = omega arith in ap (λ k. More (done + k)) m
 
-  pub all_came : (z : ℤ) → T (non_neg z) → nat_abs z ≢ 0 → room ≤ nat_abs z → More (done + room) ≡ after_read done room z
+  pub all_came : (n : ℕ) → n ≢ 0 → room ≤ n → More (done + room) ≡ after_read done room (Ok n)
   unfolding after_read
-  all_came (pos zero) t e h = absurd (e refl)
-  all_came (pos (suc n)) t e h = let m : room ≡ min (suc n) room = omega arith in ap (λ k. More (done + k)) m
-  all_came (negsuc n) t e h = absurd t
+  all_came zero e h = absurd (e refl)
+  all_came (suc n) e h = let m : room ≡ min (suc n) room = omega arith in ap (λ k. More (done + k)) m
 
 -- a read that brings more brings some, and no more than there is room for
 pub record Came (done room more : ℕ) : Type 0 where
   pub some : done < more
   pub most : more ≤ done + room
 
-pub came : (done room : ℕ) (z : ℤ) (more : ℕ) → 0 < room → More more ≡ after_read done room z → Came done room more
+pub came : (done room : ℕ) (z : Result ℕ Error) (more : ℕ) → 0 < room → More more ≡ after_read done room z → Came done room more
 unfolding after_read
-came done room (negsuc n) more h e = absurd (let x : ◌≡◌ {A = ℕ} 0 1 = cc in omega arith)
-came done room (pos zero) more h e = absurd (let x : ◌≡◌ {A = ℕ} 0 1 = cc in omega arith)
-came done room (pos (suc n)) more h e = let x : more ≡ done + min (suc n) room = cc in record { some = omega arith; most = omega arith }
+came done room (Err n) more h e = absurd (cc)
+came done room (Ok zero) more h e = absurd (cc)
+came done room (Ok (suc n)) more h e = let x : more ≡ done + min (suc n) room = cc in record { some = omega arith; most = omega arith }

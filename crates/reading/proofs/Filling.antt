@@ -1,14 +1,11 @@
 -- What reads make of a room, one after another, and what they leave of it. Assumes nothing.
-use Prim.Native.Nat.{ℕ, ◌+◌, ◌-◌, ◌<◌, ◌≤◌}
-use mathlib.Core.Path.{◌≡◌, refl, ap, subst, sym, ◌∙◌}
-use mathlib.Core.Bool.{Bool, true, false}
-use mathlib.Core.List.{List, [], ◌∷◌}
-use native.Mathlib.Omega.{arith}
+use Rattle.std.proofs.Common.{ℕ, ◌+◌, ◌-◌, ◌<◌, ◌≤◌, ◌≡◌, refl, ap, subst, sym, ◌∙◌, Bool, true, false, List, [], ◌∷◌, length, take, drop, arith}
 use borrow.Author.Tests.{ltb-true, ltb-false, lt-ltb, le-ltb}
 use lib.Dec.{ltb}
-use lib.IntN.{pos}
-use lib.ListN.{length, take, drop, replicate, length-replicate}
+use lib.ListN.{replicate, length-replicate}
 use lib.Seq.{paste, length-paste, take-paste, drop-paste, take-take, take_at, drop-drop, length-take-le}
+use Rattle.std.specs.Prelude.{Ok}
+use Rattle.std.specs.declared.io.Error.{Error}
 use Rattle.reading.specs.declared.Reading.{Reading}
 use Rattle.reading.specs.declared.Reading.TheVariants.{More, End, Broken}
 use Rattle.reading.specs.declared.Filled.{Filled}
@@ -45,7 +42,7 @@ module _ (x : Read) (rest : List Read) (done : ℕ) (buf : List ℕ) (room : don
   pub on_end : after_read done (asked done buf) x.got ≡ End → fill_of (x ∷ rest) done buf ≡ over (Bytes done) buf
   on_end e = by e
 
-  pub on_broken : after_read done (asked done buf) x.got ≡ Broken → fill_of (x ∷ rest) done buf ≡ over Failed buf
+  pub on_broken : {why : Error} → after_read done (asked done buf) x.got ≡ Broken why → fill_of (x ∷ rest) done buf ≡ over (Failed why) buf
   on_broken e = by e
 
 -- ---- what is left of the room
@@ -96,7 +93,7 @@ module _ (x : Read) (rest : List Read) (done : ℕ) (buf : List ℕ) (upto : don
       let all : more ≡ done + n = omega (arith, some) in
       through done buf x.piece n inside enough (subst (λ k. Kept k next r exit) all (later more next (omega (arith, some, same)) e))
   decided room End d e = stays done buf (Bytes done) r exit upto refl e
-  decided room Broken d e = stays done buf Failed r exit upto room e
+  decided room (Broken why) d e = stays done buf (Failed why) r exit upto room e
 
   on_read : (b : Bool) → ltb done (length buf) ≡ b → fill_of (x ∷ rest) done buf ≡ over r exit → Kept done buf r exit
   on_read true t e =
@@ -138,7 +135,7 @@ one_filling {entry} {exit} {exit'} {r} {r'} f g e =
 -- and no further: the reads are not tied to calls that were made. A function that reads nothing and tells 0 bytes would meet the contract
 -- too, by a read at the end of the input that nobody made
 at_end : Read
-at_end = record { got = pos 0; piece = replicate 4096 0; size = length-replicate {A = ℕ} 4096 0 }
+at_end = record { got = Ok 0; piece = replicate 4096 0; size = length-replicate {A = ℕ} 4096 0 }
 
 by_room : (entry : List ℕ) (b : Bool) → ltb 0 (length entry) ≡ b → Filling entry (Bytes 0) entry
 unfolding after_read at_end

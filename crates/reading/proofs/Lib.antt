@@ -2,3 +2,5 @@
 -- they leave of it as it was, and that as many bytes as are told lie within it.
 pub mod Arriving
 pub mod Filling
+-- what `fill` keeps while it reads
+mod Going

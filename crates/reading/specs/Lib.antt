@@ -1,2 +1,2 @@
--- Reading from a descriptor. `Reading`: what one read comes to, and all of them together.
+-- Reading from a reader. `Reading`: what one read comes to, and all of them together.
 pub mod Reading

@@ -1,24 +1,26 @@
 -- Reading until the room is full, the input ends, or a read fails: what one read comes to, told what it answers, and
 -- what all of them make of the room.
-use Rattle.std.specs.Prelude.{ℕ, zero, suc, ◌+◌, ◌-◌, ◌<◌, ◌≤◌, min, ◌≡◌, cond, List, [], ◌∷◌, ltb, length, take, drop, ℤ, pos, negsuc}
+use Rattle.std.specs.Prelude.{ℕ, zero, suc, ◌+◌, ◌-◌, ◌<◌, ◌≤◌, min, ◌≡◌, cond, List, [], ◌∷◌, ltb, length, take, drop, Ok, Err}
 use Rattle.std.proofs.Math.Seq.{paste}
+use Rattle.std.specs.declared.result.Result.{Result}
+use Rattle.std.specs.declared.io.Error.{Error}
 use Rattle.reading.specs.declared.Reading.{Reading}
 use Rattle.reading.specs.declared.Reading.TheVariants.{More, End, Broken}
 use Rattle.reading.specs.declared.Filled.{Filled}
 use Rattle.reading.specs.declared.Filled.TheVariants.{Bytes, Failed}
 
--- ---- one read: it answers below 0 where it failed, 0 at the end of the input, else how many bytes came, which may
+-- ---- one read: it answers an error where it failed, 0 at the end of the input, else how many bytes came, which may
 -- be fewer than there is room for
 
 -- `done` bytes were there before, and there was room for `room` more
-unfoldable pub after_read : (done room : ℕ) → ℤ → Reading
-after_read done room (negsuc k) = Broken
-after_read done room (pos zero) = End
-after_read done room (pos (suc k)) = More (done + min (suc k) room)
+unfoldable pub after_read : (done room : ℕ) → Result ℕ Error → Reading
+after_read done room (Err e) = Broken e
+after_read done room (Ok zero) = End
+after_read done room (Ok (suc k)) = More (done + min (suc k) room)
 
 -- what a read answered, and what then stood in the piece of 4096 bytes that reads bring their bytes in
 pub record Read : Type 0 where
-  pub got : ℤ
+  pub got : Result ℕ Error
   pub piece : List ℕ
   pub size : length piece ≡ 4096
 
@@ -42,7 +44,7 @@ asked done buf = min (length buf - done) 4096
 abbrev pub onward : (ℕ → List ℕ → Outcome) → (piece : List ℕ) → (done : ℕ) → List ℕ → Reading → Outcome
 onward rest piece done buf (More more) = rest more (put_behind done buf piece (more - done))
 onward rest piece done buf End = over (Bytes done) buf
-onward rest piece done buf Broken = over Failed buf
+onward rest piece done buf (Broken e) = over (Failed e) buf
 
 -- reads, one after another, into a room that holds `done` bytes: until it is full, or the input ends, or one fails
 unfoldable pub fill_of : List Read → (done : ℕ) → List ℕ → Outcome
@@ -62,7 +64,7 @@ pub record Filling (entry : List ℕ) (r : Filled) (exit : List ℕ) : Type 0 wh
 -- the answer, told that so many bytes lie in a room for `room`: a read fails only while there is room
 abbrev pub Tells : Filled → (count room : ℕ) → Type 0
 Tells (Bytes k) count room = k ≡ count
-Tells Failed count room = count < room
+Tells (Failed e) count room = count < room
 
 -- of a room that held `done` bytes: these stay, so many lie there now, and what lay behind them lies there still
 pub record Kept (done : ℕ) (buf : List ℕ) (r : Filled) (exit : List ℕ) : Type 0 where
