@@ -1,6 +1,7 @@
 // What a caller is refused, by the numbers of document 01; the checks that several entries make, and the searches
 // for the first entry at fault.
 #![tactic(auto)]
+
 mod checks;
 mod refusal;
 mod search;

@@ -1,5 +1,4 @@
 -- `refusal::search::all_finite` meets its contract. Assumes nothing.
-use Prim.Native.Nat.{◌-◌}
 use native.Mathlib.Omega.{arith}
 use Rattle.refusal.proofs.Tallying.{tally_none, tally_more, tally_done}
 use Rattle.refusal.proofs.search.all_finite.Goals as goal

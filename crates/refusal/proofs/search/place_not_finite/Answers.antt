@@ -1,6 +1,5 @@
 -- `refusal::search::place_not_finite` meets its contract. Assumes nothing.
 use native.Mathlib.Omega.{arith}
-use Prim.Native.Nat.{◌-◌}
 use Rattle.refusal.proofs.Searching.{searched_none, searched_more, searched_here, searched_done}
 use Rattle.refusal.proofs.search.place_not_finite.Goals as goal
 

@@ -1,6 +1,5 @@
 -- `refusal::search::row_not_finite` meets its contract. Assumes nothing.
 use native.Mathlib.Omega.{arith}
-use Prim.Native.Nat.{◌-◌}
 use mathlib.Core.Bool.{not}
 use mathlib.Core.Path.{sym, ap, ◌∙◌}
 use Rattle.loops.specs.Place.{Placed, placed}

@@ -12,6 +12,6 @@ returns-then-just_below_spoils c = (row_just _ _ _ (omega arith) (sym c.just_bel
 
 pub returns : goal.returns
 returns c = (
-      c.row_far_below.ensures.0 ∙ row_far _ _ _ (omega arith) (sym c.just_below_spoils.ensures ∙ c.if-just_below_spoils.false),
-      omega arith,
-    )
+  c.row_far_below.ensures.0 ∙ row_far _ _ _ (omega arith) (sym c.just_below_spoils.ensures ∙ c.if-just_below_spoils.false),
+  omega arith,
+)

@@ -17,7 +17,9 @@ fitted c = run_fitting _ _ _ (inside c.run_fits.ensures (ap not c.if-not-run_fit
 
 pub returns-then-not-run_fits : goal.returns-then-not-run_fits
 unfolding run_of work_after
-returns-then-not-run_fits c = (rw (outside c.run_fits.ensures (ap not c.if-not-run_fits.true)), rw (outside c.run_fits.ensures (ap not c.if-not-run_fits.true)))
+returns-then-not-run_fits c =
+    let unfit = outside c.run_fits.ensures (ap not c.if-not-run_fits.true) in
+    record { q_after = rw unfit; work_after = rw unfit }
 
 pub run_fitting-ran-requires : goal.run_fitting-ran-requires
 run_fitting-ran-requires c = let f = fitted (goal.at.run_fitting-ran-requires c).Else-not-run_fits in (record { order = f.order; size = f.size }, f.some)
@@ -26,4 +28,7 @@ pub returns : goal.returns
 unfolding run_of work_after
 returns c =
     let fits = inside c.run_fits.ensures (ap not c.if-not-run_fits.false) in
-    (rw fits c.run_fitting-ran.ensures, rw fits (c.fill.ensures ∙ filled_same zero _ _ (omega arith)))
+    record {
+      q_after = rw fits c.run_fitting-ran.ensures;
+      work_after = rw fits (c.fill.ensures ∙ filled_same zero _ _ (omega arith));
+    }

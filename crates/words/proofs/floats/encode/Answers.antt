@@ -1,6 +1,6 @@
 -- `words::floats::encode` meets its contract: that each float is a value of the format is told by what `bits_of` promises of it.
 -- Assumes nothing.
-use Prim.Native.Nat.{◌*◌, ◌-◌}
+use Prim.Native.Nat.{◌*◌}
 use native.Mathlib.Omega.{arith}
 use mathlib.Core.Path.{◌≡◌}
 use lib.ListN.{length}

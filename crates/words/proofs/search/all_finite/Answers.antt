@@ -1,7 +1,5 @@
 -- `words::search::all_finite` meets its contract. Assumes nothing.
-use Prim.Native.Nat.{◌-◌}
 use native.Mathlib.Omega.{arith}
-use Rattle.scalar.specs.Class.{is_finite}
 use Rattle.refusal.proofs.Tallying.{tally_none, tally_more, tally_done}
 use Rattle.words.proofs.search.all_finite.Goals as goal
 
