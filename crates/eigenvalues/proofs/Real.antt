@@ -9,7 +9,8 @@ use native.Mathlib.Omega.{arith}
 use borrow.Author.Tests.{ltb-true, not-true, not-false}
 use lib.ListN.{length}
 use lib.Ieee.{Float}
-use Rattle.loops.specs.First.{first, first_named, some_none, some_named, none_some}
+use Rattle.loops.specs.First.{first}
+use Rattle.loops.proofs.First.{first_named, some_none, some_named, none_some}
 use Rattle.refusal.specs.declared.refusal.Refusal.{Refusal}
 use Rattle.refusal.specs.declared.refusal.Refusal.TheVariants.{WrongLength, ComplexEigenvalues}
 use Rattle.refusal.specs.declared.refusal.Checked.{Checked}

@@ -1,6 +1,7 @@
 // The header of a record of the program `looproots`: read, and checked in the order of document 01. A number's lowest
 // byte comes first.
 #![tactic(auto)]
+
 ghost use Rattle.std.specs.Prelude.{◌≡◌, ◌+◌, ◌*◌, ◌<◌, ◌≤◌, ◌^◌, length, get_or};
 ghost use Rattle.words.specs.Words.{le64};
 ghost use Rattle.header.specs.Record.{le16, le32, header_of, header_checks, examined};

@@ -12,7 +12,8 @@ use lib.ListN.{length, set, length-set}
 use lib.Seq.{get_or-set_same, get_or-set_other}
 use lib.Ieee.{Float, nan}
 use Rattle.loops.specs.Constants.{zero, one}
-use Rattle.loops.specs.Place.{place, in_square, places}
+use Rattle.loops.specs.Place.{place, in_square}
+use Rattle.loops.proofs.Place.{places}
 use Rattle.loops.specs.Rounded.{◌!◌}
 use Rattle.loops.specs.Times.{times, times-length, times_frame, times_at}
 use Rattle.matrix.specs.Vectors.{filled}

@@ -10,7 +10,8 @@ use native.Mathlib.Omega.{arith}
 use lib.ListN.{length, set, length-set}
 use lib.Seq.{get_or-set_same, get_or-set_other, ext_get_or}
 use lib.Ieee.{Float, nan}
-use Rattle.loops.specs.Place.{place, in_square, places, Inside, apart}
+use Rattle.loops.specs.Place.{place, in_square, Inside}
+use Rattle.loops.proofs.Place.{places, apart}
 use Rattle.loops.specs.Rounded.{◌!◌}
 use Rattle.loops.specs.Times.{range, range_none, range_more, range_done, range_same, range_length, range_frame, range_at}
 use Rattle.matrix.specs.Entries.{Rule, at_entry, in_block}

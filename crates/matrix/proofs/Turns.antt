@@ -10,7 +10,8 @@ use native.Mathlib.Omega.{arith}
 use lib.ListN.{length, set}
 use lib.Seq.{get_or-set_other}
 use lib.Ieee.{Float, nan}
-use Rattle.loops.specs.Place.{place, places}
+use Rattle.loops.specs.Place.{place}
+use Rattle.loops.proofs.Place.{places}
 use Rattle.loops.specs.Rounded.{◌!◌}
 use Rattle.loops.specs.Times.{range, range-one, range_two, range_three}
 use Rattle.matrix.specs.Entries.{Rule, at_entry, in_block}

@@ -7,7 +7,8 @@ use lib.ListN.{length, length-set}
 use lib.Seq.{get_or-set_other}
 use lib.Ieee.{Float, nan}
 use Rattle.loops.specs.Constants.{zero}
-use Rattle.loops.specs.Place.{place, places}
+use Rattle.loops.specs.Place.{place}
+use Rattle.loops.proofs.Place.{places}
 use Rattle.loops.specs.Rounded.{◌!◌}
 use Rattle.loops.specs.Tests.{cond_hold}
 use Rattle.matrix.specs.Fits.{block_fits}

@@ -7,7 +7,8 @@ use lib.ListN.{length, set, length-set}
 use lib.Seq.{get_or-set_same, get_or-set_other}
 use lib.Ieee.{Float, nan}
 use Rattle.loops.specs.Constants.{zero}
-use Rattle.loops.specs.Place.{place, places, in_square}
+use Rattle.loops.specs.Place.{place, in_square}
+use Rattle.loops.proofs.Place.{places}
 use Rattle.loops.specs.Rounded.{◌!◌}
 use Rattle.loops.specs.Times.{range, range-one, range_two, range_length, range_frame, range_at}
 use Rattle.pass.specs.Pass.{swept}

@@ -7,7 +7,8 @@ use native.Mathlib.Decide.{dec_lt}
 use native.Mathlib.Omega.{arith}
 use borrow.Author.Tests.{lt-ltb, le-ltb}
 use lib.Dec.{ltb}
-use Rattle.loops.specs.First.{first_from, first_here, first_on, first_none, first_same, some_none, none_some}
+use Rattle.loops.specs.First.{first_from}
+use Rattle.loops.proofs.First.{first_here, first_on, first_none, first_same, some_none, none_some}
 use Rattle.refusal.specs.declared.refusal.Place.{Place}
 use Rattle.refusal.specs.declared.search.Search.TheVariants.{At, Nowhere}
 use Rattle.refusal.specs.Refusal.{at}

@@ -7,7 +7,8 @@ use native.Mathlib.Omega.{arith}
 use borrow.Author.Tests.{le-leb, lt-leb, eq-eqb, ne_eqb}
 use lib.Dec.{leb}
 use lib.Ieee.{Float}
-use Rattle.loops.specs.First.{first_from, first_here, first_on, first_none, first_past}
+use Rattle.loops.specs.First.{first_from}
+use Rattle.loops.proofs.First.{first_here, first_on, first_none, first_past}
 use Rattle.loops.specs.Place.{place}
 use Rattle.loops.specs.Rounded.{◌!◌}
 use Rattle.scalar.specs.Class.{is_zero}

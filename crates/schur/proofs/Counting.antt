@@ -9,9 +9,11 @@ use native.Mathlib.Omega.{arith}
 use lib.Dec.{eqb, leb}
 use lib.ListN.{length}
 use lib.Ieee.{Float}
-use Rattle.loops.specs.Counted.{Counted, open_count}
+use Rattle.loops.specs.Counted.{Counted}
+use Rattle.loops.proofs.Counted.{open_count}
 use Rattle.loops.specs.Tests.{cond_both}
-use Rattle.loops.specs.Threshold.{Threshold, never, from, threshold}
+use Rattle.loops.specs.Threshold.{Threshold, never, from}
+use Rattle.loops.proofs.Threshold.{threshold}
 use Rattle.matrix.specs.Vectors.{largest, zeros}
 use Rattle.window.specs.declared.Window.{Window}
 use Rattle.pass.specs.declared.setting.Setting.{Setting}

@@ -7,7 +7,7 @@ use mathlib.Core.List.{List}
 use lib.Dec.{eqb, leb}
 use lib.ListN.{length}
 use lib.Ieee.{Float}
-use Rattle.loops.specs.Until.{until_both}
+use Rattle.loops.proofs.Until.{until_both}
 use Rattle.matrix.specs.Vectors.{largest, scaled}
 use Rattle.hessenberg.specs.Reduced.{reduced}
 use Rattle.hessenberg.specs.Unpacked.{unpacked_h}

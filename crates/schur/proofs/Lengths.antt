@@ -7,7 +7,7 @@ use lib.ListN.{length}
 use lib.Ieee.{Float}
 use Rattle.loops.specs.Constants.{one}
 use Rattle.loops.specs.Tests.{cond_hold}
-use Rattle.loops.specs.Until.{until_hold}
+use Rattle.loops.proofs.Until.{until_hold}
 use Rattle.scalar.specs.Class.{is_zero}
 use Rattle.matrix.specs.Vectors.{largest, scaled, unscaled, filled}
 use Rattle.matrix.proofs.Each.{each_to-length, filled-length}

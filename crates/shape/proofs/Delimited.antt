@@ -12,7 +12,7 @@ use lib.Ieee.{Float}
 use Rattle.loops.specs.Constants.{zero as zero_f}
 use Rattle.loops.specs.Place.{place, in_square}
 use Rattle.loops.specs.Rounded.{◌!◌}
-use Rattle.loops.specs.Until.{until_hold}
+use Rattle.loops.proofs.Until.{until_hold}
 use Rattle.scalar.specs.Class.{is_zero}
 use Rattle.matrix.proofs.Fitting.{fitting}
 use Rattle.window.specs.declared.Window.{Window}

@@ -9,7 +9,7 @@ use native.Mathlib.Omega.{arith}
 use borrow.Author.Tests.{le-leb, lt-leb, eq-eqb, ne_eqb}
 use lib.ListN.{length}
 use lib.Ieee.{Float}
-use Rattle.loops.specs.First.{some_none}
+use Rattle.loops.proofs.First.{some_none}
 use Rattle.loops.specs.Place.{place}
 use Rattle.loops.specs.Rounded.{◌!◌}
 use Rattle.loops.specs.Times.{range_walk}

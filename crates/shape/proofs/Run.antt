@@ -10,11 +10,11 @@ use borrow.Author.Tests.{leb-true, leb-false, le-leb, eqb-true, eqb-false, eq-eq
 use lib.Dec.{eqb, leb}
 use lib.ListN.{length}
 use lib.Ieee.{Float}
-use Rattle.loops.specs.First.{some_none}
+use Rattle.loops.proofs.First.{some_none}
 use Rattle.loops.specs.Place.{place, in_square}
 use Rattle.loops.specs.Tests.{cond_both}
 use Rattle.loops.specs.Rounded.{◌⊗◌, ◌!◌}
-use Rattle.loops.specs.Until.{until_walk}
+use Rattle.loops.proofs.Until.{until_walk}
 use Rattle.scalar.specs.Class.{is_zero, is_finite}
 use Rattle.matrix.specs.Vectors.{largest, scaled, zeros}
 use Rattle.matrix.proofs.Each.{each_to-at, zeros-length}

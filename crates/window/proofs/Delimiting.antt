@@ -9,7 +9,8 @@ use lib.Dec.{eqb}
 use lib.Ieee.{Float, le}
 use Rattle.loops.specs.Place.{place}
 use Rattle.loops.specs.Rounded.{◌⊕◌, ◌⊗◌, ◌!◌}
-use Rattle.loops.specs.Until.{until, until_out}
+use Rattle.loops.specs.Until.{until}
+use Rattle.loops.proofs.Until.{until_out}
 use Rattle.scalar.specs.Sign.{modulus_of}
 use Rattle.window.specs.Window.{window, below, small, decoupled, falling, end_from, cut, start_from, delimited, delimit_here}
 

@@ -6,7 +6,7 @@ use lib.Dec.{eqb}
 use lib.ListN.{length, length-set}
 use lib.Ieee.{Float}
 use Rattle.loops.specs.Tests.{cond_hold}
-use Rattle.loops.specs.Until.{until_hold}
+use Rattle.loops.proofs.Until.{until_hold}
 use Rattle.matrix.specs.Fits.{block_fits}
 use Rattle.window.specs.Window.{window, decoupled, Falling, falling, stands, fall, end_from, start_from, Delimited, delimited, delimit_here, delimit_of}
 

@@ -2,7 +2,8 @@
 use native.Mathlib.Omega.{arith}
 use mathlib.Core.Bool.{not, true, false}
 use mathlib.Core.Path.{◌≡◌, refl, sym, ap, ◌∙◌}
-use Rattle.loops.specs.Until.{until, until_out, until_stop, until_turn}
+use Rattle.loops.specs.Until.{until}
+use Rattle.loops.proofs.Until.{until_out, until_stop, until_turn}
 use Rattle.window.specs.Window.{falling, stands, fall, end_from}
 use Rattle.window.proofs.delimit_end.Goals as goal
 

@@ -3,7 +3,8 @@ use native.Mathlib.Omega.{arith}
 use Prim.Native.Nat.{◌-◌}
 use mathlib.Core.Bool.{true, false}
 use mathlib.Core.Path.{◌≡◌, refl, sym, ap, ◌∙◌}
-use Rattle.loops.specs.Until.{until, until_out, until_stop, until_turn}
+use Rattle.loops.specs.Until.{until}
+use Rattle.loops.proofs.Until.{until_out, until_stop, until_turn}
 use Rattle.window.specs.Window.{cut, start_from}
 use Rattle.window.proofs.delimit_start.Goals as goal
 

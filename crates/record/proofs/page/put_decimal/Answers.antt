@@ -8,7 +8,7 @@ use Rattle.record.proofs.page.put_decimal.Goals.{After-decimal-k}
 use Rattle.record.proofs.page.put_decimal.Goals as goal
 
 made : (c : After-decimal-k) → take c.decimal-k.result c.decimal-k.new.out ≡ decimal c.args.n
-made c = c.decimal-k.ensures.1.1 ∙ decimal_digits _ _ (omega arith) c.decimal-k.ensures.1.0
+made c = c.decimal-k.ensures.digits ∙ decimal_digits _ _ (omega arith) c.decimal-k.ensures.len
 
 pub put-requires : goal.put-requires
 put-requires c = rw (made (goal.at.put-requires c).After-decimal-k) (omega (arith))

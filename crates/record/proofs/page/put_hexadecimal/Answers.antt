@@ -8,7 +8,7 @@ use Rattle.record.proofs.page.put_hexadecimal.Goals.{After-hex-k}
 use Rattle.record.proofs.page.put_hexadecimal.Goals as goal
 
 made : (c : After-hex-k) → take c.hex-k.result c.hex-k.new.out ≡ hexadecimal c.args.w
-made c = c.hex-k.ensures.1.1 ∙ hexadecimal_digits _ _ (omega arith) c.hex-k.ensures.1.0
+made c = c.hex-k.ensures.digits ∙ hexadecimal_digits _ _ (omega arith) c.hex-k.ensures.len
 
 pub put-requires : goal.put-requires
 put-requires c =

@@ -6,16 +6,17 @@ use native.Mathlib.Omega.{arith}
 use lib.ListN.{length, take, drop, length-drop}
 use lib.Seq.{length-take-le, take_all}
 use Rattle.header.specs.declared.Examined.{Examined}
+use Rattle.header.specs.declared.Examined.TheVariants.{Fit}
+use Rattle.header.specs.declared.Header.{Header}
 use Rattle.header.specs.Record.{examined}
 use Rattle.header.proofs.FitHeader.{FitHeader, fit_header}
 use Rattle.record.specs.Answer.{examined_text, text_of}
 use Rattle.record.proofs.Paging.{put_as, put_within, all_printed, none_printed}
-use Rattle.record.proofs.text.answer.Goals.{In-Fit-2}
 use Rattle.record.proofs.text.answer.Goals as goal
 
 -- a record without fault is as long as its order says
-fit : (c : In-Fit-2) → FitHeader c.in-Fit.h (length c.args.input.now)
-fit c = fit_header _ (sym c.examine.ensures ∙ c.in-Fit.is)
+fit : {x : Examined} {h : Header} (b : List ℕ) → x ≡ examined b → x ≡ Fit h → FitHeader h (length b)
+fit b e f = fit_header _ (sym e ∙ f)
 
 -- all that lies behind a header
 entries : (b : List ℕ) → take (length b - 20) (drop 20 b) ≡ drop 20 b
@@ -29,7 +30,7 @@ text_by b e = ap (λ x. examined_text x b) e
 pub put_passed-requires : goal.put_passed-requires
 put_passed-requires c =
     let b = c.args.input.now in
-    let f = fit (goal.at.put_passed-requires c).In-Fit-2 in
+    let f = fit c.args.input.now c.examine.ensures c.in-Fit.is in
     record { room = omega arith; order = f.order; whole = rw (entries b) (omega (arith, length-drop 20 b)) }
 
 pub returns-then-text-lt65536 : goal.returns-then-text-lt65536
@@ -58,7 +59,7 @@ returns-in-Fit c =
     }
 
 pub slice_bounds-put_passed-count : goal.slice_bounds-put_passed-count
-slice_bounds-put_passed-count c = omega (arith, fit (goal.at.slice_bounds-put_passed-count c).In-Fit-2)
+slice_bounds-put_passed-count c = omega (arith, fit c.args.input.now c.examine.ensures c.in-Fit.is)
 
 pub slice_bounds-put_passed-start : goal.slice_bounds-put_passed-start
-slice_bounds-put_passed-start c = omega (arith, fit (goal.at.slice_bounds-put_passed-start c).In-Fit-2)
+slice_bounds-put_passed-start c = omega (arith, fit c.args.input.now c.examine.ensures c.in-Fit.is)

@@ -4,7 +4,7 @@ use Prim.Native.Nat.{◌-◌}
 use mathlib.Core.Bool.{true, false}
 use mathlib.Core.Path.{◌≡◌, refl, sym, ap, ◌∙◌}
 use borrow.Author.Tests.{eq-eqb, ne_eqb}
-use Rattle.loops.specs.Until.{until_out, until_stop, until_turn}
+use Rattle.loops.proofs.Until.{until_out, until_stop, until_turn}
 use Rattle.pass.specs.Pair.{pair}
 use Rattle.schur.specs.Run.{running, closed, run_from}
 use Rattle.schur.proofs.run.State.run_from.Goals as goal
