@@ -10,7 +10,7 @@ pub returns-in-Declined : goal.returns-in-Declined
 returns-in-Declined c =
     let left = c.decompose.ensures in
     record {
-      (goal.at.returns-in-Declined c).In-Declined-2 = run_refused _ _ _ _ (sym (ap (λ o. o.answer) left) ∙ c.in-Declined.is);
+      told = run_refused _ _ _ _ (sym (ap (λ o. o.answer) left) ∙ c.in-Declined.is);
       left = ap (λ o. o.pair.t) left;
       cleared = ap (λ o. o.work) left ∙ judged_work _ _ _;
     }
@@ -21,7 +21,7 @@ returns-in-Accepted c =
     let z = c.requires in
     let here = c.diagonal_if_real.ensures ∙ diagonal_fits _ _ _ z.some z.order (omega arith) (omega arith) in
     record {
-      (goal.at.returns-in-Accepted c).In-Accepted = run_read _ _ _ _ (sym (ap (λ o. o.answer) left) ∙ c.in-Accepted.is) (ap (λ o. o.pair.t) left) here;
+      told = run_read _ _ _ _ (sym (ap (λ o. o.answer) left) ∙ c.in-Accepted.is) (ap (λ o. o.pair.t) left) here;
       left = ap (λ o. o.pair.t) left;
       cleared = ap (λ o. o.work) left ∙ judged_work _ _ _;
     }
