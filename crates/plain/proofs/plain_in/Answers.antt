@@ -9,11 +9,11 @@ pub slice_bounds-plain_copied-end : goal.slice_bounds-plain_copied-end
 slice_bounds-plain_copied-end c = omega arith
 
 pub slice_bounds-plain_copied-end-2 : goal.slice_bounds-plain_copied-end-2
-slice_bounds-plain_copied-end-2 c = sym (length-take-le _ _ (slice_bounds-plain_copied-end (goal.at.slice_bounds-plain_copied-end-2 c).After-plain_copied-arg-1))
+slice_bounds-plain_copied-end-2 c = sym (length-take-le _ _ (omega arith))
 
 pub plain_copied-requires : goal.plain_copied-requires
 plain_copied-requires c =
-    (c.requires.0, sym (slice_bounds-plain_copied-end-2 (goal.at.plain_copied-requires c).After-plain_copied-arg-2-1))
+    (c.requires.0, length-take-le _ _ (omega arith))
 
 pub returns : goal.returns
 returns c =

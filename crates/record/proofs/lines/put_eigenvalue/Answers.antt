@@ -32,3 +32,12 @@ put_byte-requires c = omega (arith, digits (goal.at.put_byte-requires c).Start)
 
 pub shape_of-text : goal.shape_of-text
 shape_of-text c = omega (arith, digits (goal.at.shape_of-text c).Start)
+
+pub put_number-b-requires : goal.put_number-b-requires
+put_number-b-requires c = omega (arith, digits (goal.at.put_number-b-requires c).Start)
+
+pub put_pattern-c-requires : goal.put_pattern-c-requires
+put_pattern-c-requires c = omega (arith, digits (goal.at.put_pattern-c-requires c).Start)
+
+pub put_pattern-d-requires : goal.put_pattern-d-requires
+put_pattern-d-requires c = omega (arith, digits (goal.at.put_pattern-d-requires c).Start)

@@ -26,3 +26,9 @@ put_byte-requires c = omega (arith, digits (goal.at.put_byte-requires c).Start)
 
 pub shape_of-text : goal.shape_of-text
 shape_of-text c = omega (arith, digits (goal.at.shape_of-text c).Start)
+
+pub put_number-b-requires : goal.put_number-b-requires
+put_number-b-requires c = omega (arith, digits (goal.at.put_number-b-requires c).Start)
+
+pub put_number-d-requires : goal.put_number-d-requires
+put_number-d-requires c = omega (arith, digits (goal.at.put_number-d-requires c).Start)

@@ -30,3 +30,6 @@ put_byte-requires c = omega (arith, digits (goal.at.put_byte-requires c).Start)
 
 pub shape_of-text : goal.shape_of-text
 shape_of-text c = omega (arith, digits (goal.at.shape_of-text c).Start)
+
+pub put_number-b-requires : goal.put_number-b-requires
+put_number-b-requires c = omega (arith, digits (goal.at.put_number-b-requires c).Start)

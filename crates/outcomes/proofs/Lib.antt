@@ -1,0 +1,2 @@
+-- `Marked`: that the table of specs comes true.
+pub mod Marked
