@@ -1,4 +1,4 @@
-//! Links the static library of the kernels that `rt staticlib` writes, and hands `ORACLE_SHIFT` on to the
+//! Links the static library of the kernels that `tools/build` writes, and hands `ORACLE_SHIFT` on to the
 //! program. The door comes with the package `rust/manulsek`, which links it.
 
 use std::env;
@@ -23,7 +23,7 @@ fn main() {
     println!("cargo:rustc-link-lib=static={LIBRARY}");
     if !archive.is_file() {
         eprintln!("{} (seen from oracle/) is not there.", archive.display());
-        eprintln!("Run `rt staticlib {LIBRARY}` in the repository's root, or use `oracle/run`.");
+        eprintln!("Run `tools/build {LIBRARY}` in the repository's root, or use `oracle/run`.");
         exit(1);
     }
 }

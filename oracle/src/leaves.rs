@@ -1,7 +1,7 @@
 //! Command `leaves`: what the program `leaf_runs` has to print, made with the plain functions of
 //! `model.rs`, which hold the formulas of `docs/SUMS.md`. The stored file `crates/leaf_runs/stdout` is
-//! compared with it; `--write` stores it anew. The program's own output never gets there: `rt check` and
-//! `rt ci` hold the program to the file.
+//! compared with it; `--write` stores it anew. The program's own output never gets there: `rt ci` holds the
+//! program to the file.
 //!
 //! The calls are those of `crates/leaf_runs/stdin`, which the program is run on too and which says what
 //! their numbers mean; a line that is no call is an error. Numbers are drawn as

@@ -186,7 +186,7 @@ impl Tally {
 fn run_damaged(program: &Path, count: usize, seed: u64) -> Result<usize, String> {
     if !program.is_file() {
         return Err(format!(
-            "{} (seen from oracle/) is not there: `rt check looproots` in the repository's root builds it",
+            "{} (seen from oracle/) is not there: `tools/build looproots` in the repository's root builds it",
             program.display()
         ));
     }
@@ -320,6 +320,6 @@ mod tests {
         assert_eq!(said(&["--damaged"]), "`--damaged` needs a value");
         assert_eq!(said(&["--write", "1"]), "no option `--write`");
         let missing = run_damaged(Path::new("../target/bin/no such"), 1, 1).unwrap_err();
-        assert!(missing.contains("rt check looproots"), "{missing}");
+        assert!(missing.contains("tools/build looproots"), "{missing}");
     }
 }

@@ -1,4 +1,4 @@
-//! Links the static library that `rt staticlib door` writes.
+//! Links the static library that `tools/build door` writes.
 
 use std::env::{self, VarError};
 use std::fs;
@@ -11,7 +11,7 @@ const VARIABLE: &str = "MANULSEK_LIB_DIR";
 
 const NAME: &str = "libdoor.a";
 
-const WRITTEN: &str = "`rt staticlib door`, in the root of Manulsek's repository, writes it to target/staticlib there.";
+const WRITTEN: &str = "`tools/build door`, in the root of Manulsek's repository, writes it to target/staticlib there.";
 
 /// Where the archive is if the variable is not set, seen from this package's folder, where cargo runs this script.
 const FOLDER: &str = "../../target/staticlib";
@@ -73,7 +73,7 @@ fn warn() {
     );
     println!("cargo:warning={WRITTEN}");
     println!("cargo:warning=Where manulsek comes by git = \"..\", set {VARIABLE} to that folder's full path.");
-    println!("cargo:rustc-link-lib=static=door (`rt staticlib door` writes it, {VARIABLE} names its folder)");
+    println!("cargo:rustc-link-lib=static=door (`tools/build door` writes it, {VARIABLE} names its folder)");
 }
 
 fn fail(why: &str) -> ! {

@@ -1,6 +1,6 @@
 /* The roots of a polynomial, from the eigenvalues of its companion matrix. From the repository's root:
  *
- *     rt staticlib door
+ *     tools/build door
  *     cc -I rust/manulsek/include rust/manulsek/examples/roots.c target/staticlib/libdoor.a -o roots
  *     ./roots -6 11 -6      # x^3 - 6x^2 + 11x - 6, the constant first; the leading 1 is left out
  *

@@ -1,6 +1,6 @@
 /* Manulsek: the real Schur decomposition of nalgebra 0.35.0, proved, for C99 and C++ on x86-64.
  *
- * The functions are those of the static library that `rt staticlib door` writes,
+ * The functions are those of the static library that `tools/build door` writes,
  * target/staticlib/libdoor.a. A program needs the C library besides:
  *
  *     cc -I rust/manulsek/include roots.c target/staticlib/libdoor.a

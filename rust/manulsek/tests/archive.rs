@@ -63,12 +63,12 @@ fn the_archive_is_looked_for_in_one_place() {
     fails(
         "build",
         None,
-        &[own_name, "`rt staticlib door`", "MANULSEK_LIB_DIR"],
+        &[own_name, "`tools/build door`", "MANULSEK_LIB_DIR"],
     );
     fails(
         "build -q",
         None,
-        &["`rt staticlib door`", "MANULSEK_LIB_DIR"],
+        &["`tools/build door`", "MANULSEK_LIB_DIR"],
     );
     let other = archive();
     works("build", other.parent().unwrap().to_str());
@@ -83,7 +83,7 @@ fn the_archive_is_looked_for_in_one_place() {
     fails(
         "check",
         Some(empty),
-        &[empty, "libdoor.a", "`rt staticlib door`"],
+        &[empty, "libdoor.a", "`tools/build door`"],
     );
     fails(
         "check",
