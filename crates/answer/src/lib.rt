@@ -1,5 +1,6 @@
 // An answer as one number, for a host that has no enums.
 #![tactic(auto)]
+
 ghost use Rattle.std.specs.Prelude.{◌≡◌};
 ghost use Rattle.answer.specs.Answer.{packed, refusal_number, checked_number, decomposed_number};
 

@@ -2,6 +2,7 @@
 // a T or a number, and writes to up to three lent slices: T, Q and workspace; eigenvalues; real parts and
 // imaginary parts; eigenvalues and workspace; a root. The others are left alone.
 #![tactic(auto)]
+
 ghost use Rattle.std.specs.Prelude.{◌≡◌};
 ghost use Rattle.calls.specs.Call.{decomposed_answer, checked_answer, came, with_or_without_q, rooted, call_of};
 

@@ -15,7 +15,8 @@ use Rattle.pass.specs.Setting.{setting}
 use Rattle.pass.specs.Pair.{pair}
 use Rattle.refusal.specs.Refusal.{told_of, refuse, refuse_at, ◌next◌}
 use Rattle.refusal.specs.Checks.{order_checks, length_check, only_if, lent_lengths, matrix_lengths, entry_checks}
-use Rattle.refusal.specs.Search.{first_row, first_col, first_place, not_finite, spoils, first_not_finite, first_spoiling}
+use Rattle.refusal.specs.Search.{first_row, first_col, first_place}
+use Rattle.refusal.specs.Search.{not_finite, spoils, first_not_finite, first_spoiling}
 use Rattle.decomposition.specs.declared.Decomposed.{Decomposed}
 use Rattle.decomposition.specs.declared.Decomposed.TheVariants.{Accepted, Declined}
 use Rattle.decomposition.specs.Checks.{tolerance_fits, budget_fits, all_lengths, argument_checks, result_checks}
@@ -24,11 +25,11 @@ use Rattle.decomposition.specs.Decomposition.{begun, entry_of, decomposition_of,
 
 -- every definition that a case computes with
 unfoldable pub opened_decomposition : Unit {0}
-unfolding opened_schur first_from is_finite told_of refuse refuse_at ◌next◌ first_row first_col first_place not_finite spoils
-    first_not_finite first_spoiling
+unfolding opened_schur first_from is_finite told_of refuse refuse_at ◌next◌ first_row first_col first_place
+    not_finite spoils first_not_finite first_spoiling
     order_checks length_check only_if lent_lengths matrix_lengths entry_checks
-    tolerance_fits budget_fits all_lengths argument_checks result_checks verdict passes_of nan_filled settled decided judged
-    begun entry_of
+    tolerance_fits budget_fits all_lengths argument_checks result_checks verdict passes_of nan_filled settled decided
+    judged begun entry_of
 opened_decomposition = tt
 
 -- 0 and the count; or the number of the refusal and its place

@@ -1,6 +1,7 @@
 // The real Schur decomposition as a caller gets it: the arguments are checked, the run is made, its result is
 // looked at. A matrix of order n lies column by column in one slice.
 #![tactic(auto)]
+
 ghost use Rattle.std.specs.Prelude.{◌≡◌, true, not, length, ◌≤◌};
 ghost use Rattle.pass.specs.Pair.{pair};
 ghost use Rattle.refusal.specs.declared.refusal.Refusal.TheVariants.{ToleranceOutside, BudgetOutside, ResultNotFinite};

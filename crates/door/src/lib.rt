@@ -2,6 +2,7 @@
 // bytes that hold such patterns, little-endian. Matrices lie column by column. Each function takes every
 // input; the crate `answer` says how a refusal is reported in one number.
 #![tactic(auto)]
+
 mod checks;
 mod lists;
 mod matrices;

@@ -15,7 +15,8 @@ use Rattle.pass.specs.Block.{block_at, discriminant}
 use Rattle.refusal.specs.declared.refusal.Checked.{Checked}
 use Rattle.refusal.specs.declared.refusal.Checked.TheVariants.{Passed, Refused}
 use Rattle.refusal.specs.Refusal.{told_of, refuse, refuse_at, ◌next◌, if_passed}
-use Rattle.refusal.specs.Search.{first_row, first_col, first_place, first_on_diagonal, not_finite, spoils, first_not_finite}
+use Rattle.refusal.specs.Search.{first_row, first_col, first_place}
+use Rattle.refusal.specs.Search.{first_on_diagonal, not_finite, spoils, first_not_finite}
 use Rattle.refusal.specs.Search.{first_spoiling}
 use Rattle.refusal.specs.Checks.{order_checks, length_check, entry_checks, given_checks}
 use Rattle.eigenvalues.specs.Blocks.{paired, pair_of, answer_at, not_complex, upper, lower, follows, answer_before}
@@ -28,12 +29,12 @@ use Rattle.eigenvalues.specs.Readers.{complex_lengths, complex_read, complex_fin
 -- every definition that a case computes with
 unfoldable pub opened_readers : Unit {0}
 unfolding opened until first_from table is_finite block_at discriminant told_of refuse refuse_at ◌next◌ if_passed
-    first_row first_col first_place first_on_diagonal not_finite spoils first_not_finite first_spoiling order_checks length_check
-    entry_checks given_checks
-    paired pair_of answer_at not_complex upper lower follows answer_before eigenvalue_at shape_check readable finite_readable
-    any_paired pair_check real_checks diagonal left_by real_lengths real_read
-    real_finite_of diagonal_if_real not_finite_at block_checks complex_checks complex_lengths complex_read complex_finite_of
-    sub neg eq
+    first_row first_col first_place first_on_diagonal not_finite spoils first_not_finite first_spoiling order_checks
+    length_check entry_checks given_checks
+    paired pair_of answer_at not_complex upper lower follows answer_before eigenvalue_at shape_check readable
+    finite_readable any_paired pair_check real_checks diagonal left_by real_lengths real_read
+    real_finite_of diagonal_if_real not_finite_at block_checks complex_checks complex_lengths complex_read
+    complex_finite_of sub neg eq
 opened_readers = tt
 
 -- 0; or the number of the refusal and its place

@@ -1,5 +1,6 @@
 // Eigenvalues: the readers of a given T.
 #![tactic(auto)]
+
 mod block;
 mod readers;
 

@@ -29,8 +29,8 @@ with f x y = f (of_bits binary64 x) (of_bits binary64 y)
 
 -- every definition that a case computes with
 unfoldable pub opened_here : Unit {0}
-unfolding opened turn_shown made with to_exp_of length_of signed_length try_new or_identity new_of cancel_y turned_rows rotated
-    turned_columns rotated_rows sub lt eq neg
+unfolding opened turn_shown made with to_exp_of length_of signed_length try_new or_identity new_of cancel_y
+    turned_rows rotated turned_columns rotated_rows sub lt eq neg
 opened_here = tt
 
 -- ---- making one

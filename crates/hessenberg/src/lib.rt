@@ -2,6 +2,7 @@
 // lies column by column in one slice; the workspace has 2n numbers. Where a slice has another length
 // nothing is done.
 #![tactic(auto)]
+
 ghost use Rattle.std.specs.Prelude.{◌≡◌, eqb, length, ◌+◌, ◌*◌, ◌≤◌};
 ghost use Rattle.matrix.specs.Entries.{in_block};
 ghost use Rattle.hessenberg.specs.Reduced.{reduction, reduce_column, reduced};

@@ -10,7 +10,7 @@ use lib.Dec.{leb}
 use lib.ListN.{length}
 use lib.Ieee.{Float, nan}
 use Rattle.loops.specs.Down.{down, down_same}
-use Rattle.loops.specs.Place.{place, Inside}
+use Rattle.loops.specs.Place.{Inside}
 use Rattle.loops.specs.Rounded.{◌!◌}
 use Rattle.scalar.specs.Sign.{signum_of}
 use Rattle.matrix.specs.Fits.{block_fits}

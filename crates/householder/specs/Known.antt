@@ -21,8 +21,8 @@ use Rattle.householder.specs.Assembled.{identity, with_axis, assembled}
 -- every definition that a case computes with
 unfoldable pub opened_here : Unit {0}
 unfolding opened signum_of to_exp_of signed_norm factor_of shifted all_zero way_of in_way axis_of on_part
-    down_column mirrored_columns reflected mirrored_rows reflected_rows copied both_sides cleared_here clear_of down identity
-    with_axis assembled neg eq
+    down_column mirrored_columns reflected mirrored_rows reflected_rows copied both_sides cleared_here clear_of down
+    identity with_axis assembled neg eq
 opened_here = tt
 
 -- ---- the axis

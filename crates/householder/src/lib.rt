@@ -1,5 +1,6 @@
 // Householder reflections: the axis of one, a column cleared by one, and Q put together from many.
 #![tactic(auto)]
+
 mod assemble;
 mod axis;
 mod clear;

@@ -1,6 +1,7 @@
 // The leaves for the oracle alone: it compares them with the crate's own, bit by bit and in time. What a
 // host program calls is `door`.
 #![tactic(auto)]
+
 ghost use Rattle.std.specs.Prelude.{◌≡◌};
 ghost use Rattle.matrix.specs.Sum.{lanes, bare};
 ghost use Rattle.loops.specs.Constants.{one};

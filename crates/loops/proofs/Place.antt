@@ -1,8 +1,8 @@
 -- The laws of `Place` of specs.
-use Rattle.std.specs.Prelude.{◌≡◌, ℕ, suc, ◌+◌, ◌*◌, ◌<◌, ◌≤◌, ◌≢◌}
-use Rattle.std.proofs.Common.{ap, add-one, mul-le-mul_right, mul-le-mul, suc-mul, arith}
+use Rattle.std.specs.Prelude.{◌≡◌, ℕ, suc, ◌*◌, ◌<◌, ◌≢◌}
+use Rattle.std.proofs.Common.{ap, mul-le-mul_right, suc-mul, arith}
 use Rattle.std.proofs.Math.Decide.{dec_lt}
-use Rattle.loops.specs.Place.{Inside, column, place}
+use Rattle.loops.specs.Place.{Inside, place}
 
 -- a place of an earlier column lies before one of a later
 later : (n i j i' j' : ℕ) → i < n → j < j' → place n i j < place n i' j'

@@ -1,9 +1,7 @@
 -- The first of the numbers below n that a test names, and n itself where it names none: a search that a loop makes from
 -- 0 on. What is left to search at k is `first_from test n k`, so a loop's invariant says that this equals the whole
 -- search.
-use Rattle.std.specs.Prelude.{◌≡◌, refl, Bool, true, false, ℕ, zero, suc, ◌+◌, ◌-◌, ◌<◌, ◌≤◌, ltb}
-use Rattle.std.proofs.Common.{sym, ap, ◌∙◌, arith, ltb-false, le-ltb}
-use Rattle.std.proofs.Math.Decide.{dec_lt}
+use Rattle.std.specs.Prelude.{Bool, ℕ, ◌+◌, ◌-◌, ltb}
 use Rattle.loops.specs.Until.{until}
 
 -- from k on

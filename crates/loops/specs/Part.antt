@@ -1,6 +1,7 @@
 -- A part of a list, and a part rewritten: what `&t[a..e]` holds, and what `f(&mut t[a..e])` leaves of t.
 use Rattle.std.specs.Prelude.{◌≡◌, List, ◌++◌, ℕ, ◌+◌, ◌-◌, ◌≤◌, ◌<◌, length, get_or, take, drop}
-use Rattle.std.proofs.Common.{ap, ◌∙◌, arith, length-append, length-take, length-drop, get_or-append-add, get_or-take, get_or-drop, take_at, drop_at}
+use Rattle.std.proofs.Common.{ap, ◌∙◌, arith, length-append, length-take}
+use Rattle.std.proofs.Common.{length-drop, get_or-append-add, get_or-take, get_or-drop, take_at, drop_at}
 use Rattle.std.proofs.Math.ListN.{get_or-append}
 
 abbrev pub part : {A : Type 0} → (a e : ℕ) → List A → List A
@@ -13,7 +14,8 @@ on_part f a e t = take a t ++ (f (take (e - a) (drop a t)) ++ drop (e - a) (drop
 pub part_length : {A : Type 0} (a e : ℕ) (t : List A) → a ≤ e → e ≤ length t → length (part a e t) ≡ e - a
 part_length a e t h k = simp (length-take, length-drop) (omega arith)
 
-pub part_at : {A : Type 0} (a e : ℕ) (t : List A) (i : ℕ) (d : A) → i < e - a → get_or (part a e t) i d ≡ get_or t (a + i) d
+pub part_at : {A : Type 0} (a e : ℕ) (t : List A) (i : ℕ) (d : A) → i < e - a
+    → get_or (part a e t) i d ≡ get_or t (a + i) d
 part_at a e t i d h = get_or-take (e - a) (drop a t) i d h ∙ get_or-drop a t i d
 
 pub on_part-length : {A : Type 0} (f : List A → List A) (a e : ℕ) (t : List A) → a ≤ e → e ≤ length t
@@ -31,7 +33,8 @@ on_part-part f a e t h k m =
 
 -- ---- the places before the part, in it and after it
 
-past : {A : Type 0} (xs ys : List A) (p : ℕ) (d : A) → length xs ≤ p → get_or (xs ++ ys) p d ≡ get_or ys (p - length xs) d
+past : {A : Type 0} (xs ys : List A) (p : ℕ) (d : A) → length xs ≤ p
+    → get_or (xs ++ ys) p d ≡ get_or ys (p - length xs) d
 past xs ys p d h =
     let e : p ≡ length xs + (p - length xs) = omega arith in
     ap (λ k. get_or (xs ++ ys) k d) e ∙ get_or-append-add xs ys (p - length xs) d

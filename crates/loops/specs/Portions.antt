@@ -1,16 +1,11 @@
 -- A run that counts, made in portions. A portion of k makes k turns at most from where the run stands. It is parked
 -- where all of them have counted, even if the run is done with the last; else the run has finished. Every division
 -- into portions comes to one portion of all together.
-use Rattle.std.proofs.Math.Path.{◌≡◌, refl, sym, ap}
-use Rattle.std.proofs.Common.{◌∙◌, add-zero}
-use Rattle.std.specs.Prelude.{Bool, ℕ, ◌+◌, ◌<◌}
-use Rattle.std.proofs.Math.Bool.{true, false, cond}
+use Rattle.std.specs.Prelude.{Bool, ℕ, ◌+◌}
+use Rattle.std.proofs.Math.Bool.{cond}
 use mathlib.Core.List.{List, [], ◌∷◌}
-use native.Mathlib.Omega.{arith}
-use borrow.Author.Tests.{eq-eqb, ne_eqb, eqb-true, eqb-false}
 use Rattle.std.proofs.Math.Dec.{eqb}
 use Rattle.loops.specs.Until.{until}
-use Rattle.loops.specs.Counted.{Counted}
 
 pub data Portioned (A : Type 0) : Type 0 where
   parked : A → Portioned A

@@ -1,11 +1,6 @@
 -- What a run that counts comes to as its budget grows: at every budget the count is the budget; or there is one count
 -- c such that it is so up to c, and all larger budgets end in one and the same.
-use Rattle.std.specs.Prelude.{◌≡◌, refl, Bool, true, false, ℕ, zero, suc, ◌+◌, ◌<◌, ◌≤◌, eqb}
-use Rattle.std.proofs.Common.{ap, ◌∙◌, arith, eqb-true}
-use Rattle.std.proofs.Math.Decide.{dec_lt}
-use Rattle.std.proofs.lemmas.Bool.{eqb-false}
-use Rattle.loops.specs.Until.{until}
-use Rattle.loops.specs.Counted.{Counted}
+use Rattle.std.specs.Prelude.{◌≡◌, ℕ, ◌<◌, ◌≤◌}
 
 -- of what is counted and what is run at each budget, up to the budget `most`
 pub data Threshold {A : Type 0} (count : ℕ → ℕ) (ran : ℕ → A) (most : ℕ) : Type 0 where

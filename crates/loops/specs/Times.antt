@@ -117,7 +117,8 @@ unfolding range
 range_length f a b t keep = times-length (λ k. f (a + k)) (b - a) t (λ k. keep (a + k))
 
 pub range_frame : {A : Type 0} (f : ℕ → List A → List A) (a b : ℕ) (t : List A) (p : ℕ) (d : A)
-    → ((i : ℕ) (s : List A) → a ≤ i → i < b → get_or (f i s) p d ≡ get_or s p d) → get_or (range f a b t) p d ≡ get_or t p d
+    → ((i : ℕ) (s : List A) → a ≤ i → i < b → get_or (f i s) p d ≡ get_or s p d)
+    → get_or (range f a b t) p d ≡ get_or t p d
 unfolding range
 range_frame f a b t p d keep =
     times_frame (λ k. f (a + k)) (b - a) t p d (λ k s l. keep (a + k) s (omega arith) (omega arith))

@@ -1,12 +1,9 @@
 -- That the table of `Marked` of specs comes true, by evaluation. Each item is evaluated by itself, so that an error names
 -- it. Assumes nothing.
-use Rattle.std.specs.Prelude.{◌≡◌, refl, ℕ, ◌*◌, List, [], ◌∷◌, ◌++◌, map, length}
+use Rattle.std.specs.Prelude.{◌≡◌, refl, List, ◌++◌, map}
 use Rattle.std.proofs.Common.{sym, ap, ◌∙◌}
 use Rattle.std.proofs.lemmas.List.{map-append}
-use Rattle.decomposition.specs.Known.{opened_decomposition}
-use Rattle.eigenvalues.specs.Known.{opened_readers}
-use Rattle.outcomes.specs.Call.{Call, Says, Answer, answer, copies, lent, refused, decomposes, reads, answer_of}
-use Rattle.outcomes.specs.Call.{call_decompose, call_real, call_complex, says_passes, says_read, says_refused}
+use Rattle.outcomes.specs.Call.{answer_of}
 use Rattle.outcomes.specs.Marked.{Line, opened_marked, marked_calls, a, b, c, d, e, f, g, h, i, j, k, l, m, n}
 
 -- ---- what is to be shown of lines

@@ -2,9 +2,7 @@
 -- statement, `marked` of proofs, which the checker evaluates. T, Q and the counts were computed by the plain model of
 -- the Rust, oracle/src/model.rs; the refusals and what they leave behind are document 01's. A matrix lies column by
 -- column.
-use Rattle.std.specs.Prelude.{◌≡◌, refl, ℕ, ◌*◌, List, [], ◌∷◌, ◌++◌, map, length}
-use Rattle.std.proofs.Common.{sym, ap, ◌∙◌}
-use Rattle.std.proofs.lemmas.List.{map-append}
+use Rattle.std.specs.Prelude.{ℕ, ◌*◌, List, [], ◌∷◌, ◌++◌, length}
 use Rattle.decomposition.specs.Known.{opened_decomposition}
 use Rattle.eigenvalues.specs.Known.{opened_readers}
 use Rattle.outcomes.specs.Call.{Call, Says, Answer, answer, copies, lent, refused, decomposes, reads, answer_of}

@@ -2,6 +2,7 @@
 // order 2 as a whole. A matrix of order n lies column by column in one slice. T is t, Q is q; q is rewritten
 // only where it is wanted.
 #![tactic(auto)]
+
 mod block;
 mod place;
 mod setting;

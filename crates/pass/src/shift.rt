@@ -6,7 +6,8 @@ ghost use Rattle.matrix.specs.Sum.{bare};
 ghost use Rattle.matrix.specs.Vectors.{list2, list3};
 ghost use Rattle.reflection.specs.Reflected.{reflected, reflected_rows};
 ghost use Rattle.pass.specs.Pair.{pair};
-ghost use Rattle.pass.specs.Pass.{first_column, bulge, bulge_end, column_at, swept_past, reflected_at, rows_at, step_at};
+ghost use Rattle.pass.specs.Pass.{first_column, bulge, bulge_end, column_at};
+ghost use Rattle.pass.specs.Pass.{swept_past, reflected_at, rows_at, step_at};
 ghost use Rattle.pass.specs.Pass.{chased, closing, pass_here, pass_of};
 ghost use Rattle.pass.specs.Inner.{Reaches};
 

@@ -1,7 +1,7 @@
 -- What lent memory held is not felt: two calls of the plain entry on one matrix, with lists and workspaces of the same lengths, answer the same, leave the same
 -- where the matrix stood, and give the same eigenvalues, whatever the lists and the workspaces held. Assumes nothing.
 use Prim.Native.Nat.{ℕ}
-use mathlib.Core.Bool.{Bool, true, false, cond}
+use mathlib.Core.Bool.{cond}
 use mathlib.Core.Path.{◌≡◌, refl, sym, ap, ◌∙◌}
 use mathlib.Core.List.{List, []}
 use lib.Dec.{eqb}
@@ -11,17 +11,15 @@ use Rattle.pass.specs.Pair.{pair}
 use Rattle.pass.specs.Block.{block_at, eigvals_of}
 use Rattle.refusal.specs.declared.refusal.Checked.{Checked}
 use Rattle.refusal.specs.declared.refusal.Checked.TheVariants.{Passed, Refused}
-use Rattle.refusal.specs.Refusal.{◌next◌, if_passed}
-use Rattle.refusal.specs.Checks.{order_checks, given_checks}
+use Rattle.refusal.specs.Refusal.{if_passed}
 use Rattle.refusal.proofs.ChecksInTurn.{refused_not_passed}
 use Rattle.schur.specs.Run.{ran_of}
 use Rattle.schur.proofs.Lent.{lent_not_felt}
 use Rattle.schur.proofs.RunAnswers.{RunFits}
-use Rattle.decomposition.specs.Decomposition.{Outcome}
 use Rattle.decomposition.proofs.Lent.{SameOutcome, judged_same}
 use Rattle.eigenvalues.specs.Readers.{Read, left_by}
-use Rattle.plain.specs.Plain.{plain_lengths, Sized, plain_two, plain_budget, plain_asked, plain_ran, complex_checked, plain_run, plain_read, plain_left}
-use Rattle.plain.specs.Plain.{InPlace, Plain, plain_begun, plain_placed_of, plain_finite_of, plain_of}
+use Rattle.plain.specs.Plain.{Sized, plain_two, plain_budget, plain_asked, plain_ran, plain_run, plain_read, plain_left}
+use Rattle.plain.specs.Plain.{InPlace, plain_begun, plain_placed_of, plain_finite_of, plain_of}
 use Rattle.plain.proofs.Plainly.{given_sized, sizes_passed}
 
 -- what two calls answer and leave: lists are the same where eigenvalues were given, else they are as they were

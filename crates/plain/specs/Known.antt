@@ -12,8 +12,8 @@ use Rattle.plain.specs.Plain.{plain_begun, plain_placed_of, plain_finite_of, pla
 
 -- every definition that a case computes with
 unfoldable pub opened_plain : Unit {0}
-unfolding opened_readers opened_decomposition plain_lengths plain_two complex_checked plain_run plain_read plain_left plain_begun
-    plain_placed_of
+unfolding opened_readers opened_decomposition plain_lengths plain_two complex_checked plain_run plain_read plain_left
+    plain_begun plain_placed_of
     plain_finite_of plain_of
 opened_plain = tt
 

@@ -1,6 +1,7 @@
 // The plain entry: the eigenvalues of a matrix, if all are real. A matrix of order n lies column by column in
 // one slice.
 #![tactic(auto)]
+
 ghost use Rattle.std.specs.Prelude.{◌≡◌, true, [], length, ◌*◌, ◌≤◌};
 ghost use Rattle.pass.specs.declared.block.Eigvals.TheVariants.{Real};
 ghost use Rattle.pass.specs.Block.{block_at, eigvals_of};

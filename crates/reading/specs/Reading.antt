@@ -1,6 +1,7 @@
 -- Reading until the room is full, the input ends, or a read fails: what one read comes to, told what it answers, and
 -- what all of them make of the room.
-use Rattle.std.specs.Prelude.{ℕ, zero, suc, ◌+◌, ◌-◌, ◌<◌, ◌≤◌, min, ◌≡◌, cond, List, [], ◌∷◌, ltb, length, take, drop, Ok, Err}
+use Rattle.std.specs.Prelude.{ℕ, zero, suc, ◌+◌, ◌-◌, ◌<◌, ◌≤◌, min, ◌≡◌}
+use Rattle.std.specs.Prelude.{cond, List, [], ◌∷◌, ltb, length, take, drop, Ok, Err}
 use Rattle.std.proofs.Math.Seq.{paste}
 use Rattle.std.specs.declared.result.Result.{Result}
 use Rattle.std.specs.declared.io.Error.{Error}

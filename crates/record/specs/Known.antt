@@ -37,8 +37,8 @@ unfoldable opened_record : Unit {0}
 unfolding opened_decomposition opened_readers table le64 byte_of floats_of zeros bytes entries recorded lined
     ascii decimal_in decimal hexadecimal refused_line passes_line entry_line eigenvalue_line joined matrix_lines
     eigenvalue_lines
-    le16 le32 header_of header_checks record_checks by_checks examined eigenvalues_text read_text decomposed_text decomposed
-    matrix_text examined_text text_of
+    le16 le32 header_of header_checks record_checks by_checks examined eigenvalues_text read_text decomposed_text
+    decomposed matrix_text examined_text text_of
 opened_record = tt
 
 -- ---- the sample: order 2, budget 1, tolerance 0, entries 2 0 0 3

@@ -14,8 +14,8 @@ unfoldable pub ascii : String → List ℕ
 ascii string.[] = []
 ascii (string.◌∷◌ c s) = code c ∷ ascii s
 
--- ---- numbers; `glyph` is the code of a digit and `digits b k n` the last k digits of n in base b, both of the kit's
--- `io`
+-- ---- numbers; `hex_digit_ascii` is the code of a digit and `last_digits b k n` the last k digits of n in base b, both
+-- of the kit's `io`
 
 -- the digits of n in base 10: the last k, or as many as there are
 unfoldable pub decimal_in : (k n : ℕ) → List ℕ

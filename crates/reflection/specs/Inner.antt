@@ -1,4 +1,4 @@
--- What the private functions of the kernels do. Nothing here need be believed: the public contracts cite `way_reflected`
+-- What the private functions of the kernels do. Nothing here need be believed: the public contracts cite `Reflected`
 -- alone.
 use Rattle.std.specs.Prelude.{ℕ, ◌+◌, ◌*◌, ◌<◌, ◌≤◌, ◌≡◌, List, length, set, Float}
 use Rattle.loops.specs.Rounded.{◌⊕◌, ◌⊗◌, ◌!◌}

@@ -19,7 +19,7 @@ pub record PositiveBelow (bound w : ℕ) : Type 0 where
 unfoldable pub units_of : ℕ → ℕ
 units_of w = cond (nat_lt w (2 ^ 52)) w ((w % 2 ^ 52 + 2 ^ 52) * 2 ^ (w / 2 ^ 52 - 1))
 
--- That number is top * 4 ^ h / 2 ^ 62, with a top of 63 or 64 digits, and so big_x is top * 2 ^ 42.
+-- That number is top * 4 ^ h / 2 ^ 62, with a top of 63 or 64 digits, and so X is top * 2 ^ 42.
 pub record Placed (w top h : ℕ) : Type 0 where
   pub is : units_of w * 2 ^ 62 ≡ top * 2 ^ (2 * h)
   pub large : 2 ^ 62 ≤ top

@@ -21,7 +21,6 @@ use Rattle.matrix.proofs.Each.{each_to-at, zeros-length}
 use Rattle.hessenberg.specs.Reduced.{work_fits, reduced}
 use Rattle.hessenberg.specs.Unpacked.{unpacked_h}
 use Rattle.hessenberg.proofs.Frames.{reduced-length, reduced_work, unpacked_h-length, unpacked_h-zero}
-use Rattle.window.specs.Window.{window}
 use Rattle.pass.specs.declared.setting.Setting.{Setting}
 use Rattle.pass.specs.Pair.{Pair, pair}
 use Rattle.schur.specs.declared.run.Ran.TheVariants.{Ended}

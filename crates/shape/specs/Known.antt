@@ -14,8 +14,8 @@ use Rattle.shape.specs.Vanished.{run_vanished, vanished}
 
 -- every definition that a case computes with
 unfoldable pub opened_vanished : Unit {0}
-unfolding opened_schur opened_of zeros table first_from is_too_small too_small pass_to axis_column pass_vanished turn_vanished
-    run_vanished vanished
+unfolding opened_schur opened_of zeros table first_from is_too_small too_small pass_to axis_column pass_vanished
+    turn_vanished run_vanished vanished
 opened_vanished = tt
 
 case : (n eps budget : ℕ) → (t : List ℕ) → Case

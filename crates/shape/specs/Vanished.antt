@@ -1,6 +1,6 @@
 -- Of a run: in some step of one of its passes the axis was not zero throughout, and yet all its squares vanished
--- (document 00, demand 3). That is the third of the axis's ways, `way_too_small`: such a step does nothing, and may leave a
--- bulge unswept. Refusal 9 comes from no other run. The reduction has axes too. What they leave from the second
+-- (document 00, demand 3). That is the third of the axis's ways, `way_too_small`: such a step does nothing, and may
+-- leave a bulge unswept. Refusal 9 comes from no other run. The reduction has axes too. What they leave from the second
 -- subdiagonal down is overwritten with +0, so nothing is asked of them here.
 use Rattle.std.specs.Prelude.{ℕ, ◌+◌, ◌-◌, Bool, true, false, cond, not, ◌&&◌, List, eqb, leb, Float}
 use Rattle.loops.specs.First.{some}

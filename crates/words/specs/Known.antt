@@ -41,6 +41,6 @@ written = refl
 
 -- of the matrix of order 2 that lies in them, column by column, the infinity is met first
 met : first_not_finite 2 (floats_of (three ++ payload)) ≡ At (at 0 1)
-unfolding three payload floats_of table le64 of_bits first_not_finite block_fits first_place first_col first_row first_from until
-    not_finite is_finite
+unfolding three payload floats_of table le64 of_bits first_not_finite block_fits first_place first_col first_row
+    first_from until not_finite is_finite
 met = refl

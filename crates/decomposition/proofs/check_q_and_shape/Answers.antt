@@ -2,8 +2,6 @@
 use borrow.Author.Tests.{not-true, not-false}
 use Rattle.refusal.specs.Refusal.{◌next◌}
 use Rattle.refusal.specs.Checks.{only_if}
-use Rattle.std.specs.Prelude.{not}
-use Rattle.std.proofs.Common.{ap}
 use Rattle.decomposition.proofs.check_q_and_shape.Goals as goal
 
 pub returns-then-not-asked : goal.returns-then-not-asked
@@ -18,7 +16,7 @@ returns-in-Refused c = rw (not-false c.args.asked.wanted c.if-not-asked.false, �
 pub returns-in-Passed : goal.returns-in-Passed
 unfolding ◌next◌ only_if
 returns-in-Passed c = rw (
-      not-false c.args.asked.wanted c.if-not-asked.false,
-      ← c.check_result.ensures,
-      c.in-Passed.is,
-    ) c.check_shape-in-Passed.ensures
+  not-false c.args.asked.wanted c.if-not-asked.false,
+  ← c.check_result.ensures,
+  c.in-Passed.is,
+) c.check_shape-in-Passed.ensures

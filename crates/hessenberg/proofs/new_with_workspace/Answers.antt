@@ -7,7 +7,7 @@ use lib.ListN.{length}
 use Rattle.loops.specs.Times.{times_none, times_more, times_done}
 use Rattle.matrix.specs.Fits.{block_fits}
 use Rattle.matrix.proofs.Fitting.{Fits, within, inside, outside, from_row_0, from_column_0}
-use Rattle.hessenberg.specs.Reduced.{reduce_column, work_fits, reduced}
+use Rattle.hessenberg.specs.Reduced.{work_fits, reduced}
 use Rattle.hessenberg.proofs.Empty.{reduced_empty}
 use Rattle.std.specs.Prelude.{not}
 use Rattle.std.proofs.Common.{ap}

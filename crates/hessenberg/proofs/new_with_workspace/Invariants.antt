@@ -3,7 +3,7 @@ use mathlib.Core.Path.{◌≡◌}
 use Prim.Native.Nat.{ℕ, ◌+◌, ◌*◌, ◌-◌, ◌≤◌}
 use lib.ListN.{length}
 use Rattle.loops.specs.Times.{times}
-use Rattle.hessenberg.specs.Reduced.{Reduction, reduction, reduce_column, reduced}
+use Rattle.hessenberg.specs.Reduced.{Reduction, reduction, reduce_column}
 use Rattle.hessenberg.proofs.new_with_workspace.Given as goal
 
 -- the first k columns have been reduced
@@ -15,7 +15,6 @@ pub record Reducing (n : ℕ) (r₀ : Reduction) (k-end k : ℕ) (r : Reduction)
   pub room : length r.work ≡ 2 * n
   pub room₀ : length r₀.work ≡ 2 * n
   pub done : r ≡ times (reduce_column n) k r₀
-
 
 abbrev pub invariant-loop-k : goal.invariant-loop-k
 invariant-loop-k l = Reducing l.n (reduction l.initial.hess l.initial.work) l.k-end l.k (reduction l.hess l.work)

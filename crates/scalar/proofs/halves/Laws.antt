@@ -1,4 +1,4 @@
--- Numbers in two words: a square from halves, big_x from its top, and a sum word by word. Assumes nothing.
+-- Numbers in two words: a square from halves, X from its top, and a sum word by word. Assumes nothing.
 use Rattle.std.proofs.Common.{◌≡◌, ℕ, ◌+◌, ◌*◌, ◌/◌, ◌%◌, ◌^◌, ◌<◌, ◌≤◌, sym, ap, ◌∙◌, le_refl, lt_of_lt_of_le, mod-eq_of_lt, mul-le-mul, arith, pow_mono}
 use native.Mathlib.Nat.{add-mul-mod_self_right}
 use Rattle.scalar.specs.Inner.{value_of}
@@ -8,7 +8,7 @@ pub squared : (a c : ℕ)
     → value_of (a * a / 1024 + a * c / 2 ^ 36) (a * c % 2 ^ 36 * 2 ^ 28) + c * c + a * a % 1024 * 2 ^ 54 ≡ (a * 2 ^ 27 + c) * (a * 2 ^ 27 + c)
 squared a c = omega arith
 
--- big_x, of which top has the first 64 digits
+-- X, of which top has the first 64 digits
 pub scaled_words : (top : ℕ) → value_of (top / 2 ^ 22) (top % 2 ^ 22 * 2 ^ 42) ≡ top * 2 ^ 42
 scaled_words top = omega arith
 

@@ -11,14 +11,14 @@ use Rattle.scalar.proofs.root.Steps.{placed_even, placed_odd}
 abbrev pub one : ℕ
 one = 0x3ff0_0000_0000_0000
 
--- With P for 2 ^ 52 or 2 ^ 53 the products stay short. Above 1: big_x = (P + k) * P with an even and with an odd k.
+-- With P for 2 ^ 52 or 2 ^ 53 the products stay short. Above 1: X = (P + k) * P with an even and with an odd k.
 up_even : (P i : ℕ) → i * i < P → Near ((P + i * 2) * P) (P + i)
 up_even P i s = record { below = omega arith; above = omega arith }
 
 up_odd : (P i : ℕ) → i * i < P → Near ((P + (i * 2 + 1)) * P) (P + i)
 up_odd P i s = record { below = omega arith; above = omega arith }
 
--- below 1: big_x = u * (u + j), with u + j for 2 ^ 53
+-- below 1: X = u * (u + j), with u + j for 2 ^ 53
 down_even : (u c : ℕ) → c * c < u → Near (u * (u + c * 2)) (u + c)
 down_even u c s = record { below = omega arith; above = omega arith }
 

@@ -123,6 +123,6 @@ room_both q k h =
     let p : q * (k % 2 * 1024 + 1024) ≤ (2 ^ 53 - 1) * 2048 = mul-le-mul a t in
     omega arith
 
--- ---- where a candidate is taken: big_x + r = r * r + left
+-- ---- where a candidate is taken: X + r = r * r + left
 pub take_it : (big_x r left : ℕ) → big_x + r ≡ r * r + left → 0 < left → left ≤ r * 2 → Near big_x r
 take_it big_x r left e p h = record { below = omega arith; above = omega arith }

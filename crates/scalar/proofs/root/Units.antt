@@ -157,7 +157,7 @@ root_of_pattern w p h = go (ltb w (2 ^ 52)) (ltb→lt w (2 ^ 52)) (nltb→le w (
         ∙ root_of_val (odd 53 false q j 1074) (q * 2 ^ j) (odd_sign 53 false q j 1074) (mul-pos {m = q} (omega arith) (pow_pos j))
         ∙ ap units_root (sym (units_of_normal w l))
 
--- ---- what the code hands back: big_r is a number of 53 digits, and this is the pattern of big_r * 2 ^ F
+-- ---- what the code hands back: R is a number of 53 digits, and this is the pattern of R * 2 ^ F
 
 pub record Answer (w h big_r : ℕ) : Type 0 where
   pub is : of_bits binary64 ((h + 485) * 2 ^ 52 + big_r) ≡ root_of (of_bits binary64 w)

@@ -12,14 +12,14 @@ returns-then-not-tolerance_fits c = rw (outside c.tolerance_fits.ensures (ap not
 pub returns-then-not-budget_fits : goal.returns-then-not-budget_fits
 unfolding refuse ◌next◌
 returns-then-not-budget_fits c = rw (
-      inside c.tolerance_fits.ensures (ap not c.if-not-tolerance_fits.false),
-      outside c.budget_fits.ensures (ap not c.if-not-budget_fits.true),
-    )
+  inside c.tolerance_fits.ensures (ap not c.if-not-tolerance_fits.false),
+  outside c.budget_fits.ensures (ap not c.if-not-budget_fits.true),
+)
 
 pub returns : goal.returns
 unfolding refuse ◌next◌
 returns c = rw (
-      inside c.tolerance_fits.ensures (ap not c.if-not-tolerance_fits.false),
-      inside c.budget_fits.ensures (ap not c.if-not-budget_fits.false),
-    )
+  inside c.tolerance_fits.ensures (ap not c.if-not-tolerance_fits.false),
+  inside c.budget_fits.ensures (ap not c.if-not-budget_fits.false),
+)
     c.check_entries.ensures

@@ -1,6 +1,5 @@
 -- `eigenvalues::readers::any_paired` meets its contract. Assumes nothing.
 use native.Mathlib.Omega.{arith}
-use Prim.Native.Nat.{◌-◌}
 use mathlib.Core.Path.{sym, ◌∙◌}
 use Rattle.refusal.proofs.Searching.{sought_none, sought_more}
 use Rattle.eigenvalues.proofs.DiagonalSearch.{any_here, any_none}

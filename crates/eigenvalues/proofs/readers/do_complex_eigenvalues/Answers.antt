@@ -1,6 +1,5 @@
 -- `eigenvalues::readers::do_complex_eigenvalues` meets its contract. Assumes nothing.
 use native.Mathlib.Omega.{arith}
-use Prim.Native.Nat.{◌-◌}
 use mathlib.Core.Path.{ap, ◌∙◌}
 use Rattle.eigenvalues.proofs.BlockAnswers.{before_first, before_next, eigenvalue_by}
 use Rattle.eigenvalues.proofs.Filling.{filled_none, filled_more, filled_done}

@@ -1,6 +1,5 @@
 -- `eigenvalues::readers::do_eigenvalues` meets its contract. Assumes nothing.
 use native.Mathlib.Omega.{arith}
-use Prim.Native.Nat.{◌-◌}
 use mathlib.Core.Path.{◌∙◌}
 use Rattle.matrix.proofs.Kernels.{entry_of_there}
 use Rattle.eigenvalues.specs.Readers.{diagonal}

@@ -1,6 +1,5 @@
 -- `eigenvalues::readers::first_value_not_finite` meets its contract. Assumes nothing.
 use native.Mathlib.Omega.{arith}
-use Prim.Native.Nat.{◌-◌}
 use mathlib.Core.Bool.{not}
 use mathlib.Core.Path.{◌≡◌, sym, ◌∙◌}
 use Rattle.refusal.proofs.Searching.{sought_none, sought_more}

@@ -1,11 +1,11 @@
 -- `householder::assemble::assemble_q` meets its contract. Assumes nothing.
 use mathlib.Core.Path.{◌≡◌}
-use Prim.Native.Nat.{ℕ, ◌+◌, ◌*◌, ◌-◌, ◌≤◌}
+use Prim.Native.Nat.{ℕ, ◌+◌, ◌*◌, ◌≤◌}
 use mathlib.Core.List.{List}
 use lib.ListN.{length}
 use lib.Ieee.{Float}
 use Rattle.loops.specs.Down.{down}
-use Rattle.matrix.proofs.Fitting.{Fits, within}
+use Rattle.matrix.proofs.Fitting.{Fits}
 use Rattle.householder.specs.Assembled.{with_axis}
 use Rattle.householder.proofs.assemble.assemble_q.Given as goal
 

@@ -1,6 +1,5 @@
 -- `householder::assemble::fill_with_identity` meets its contract. Assumes nothing.
 use mathlib.Core.Path.{sym, ◌∙◌}
-use Prim.Native.Nat.{◌-◌}
 use native.Mathlib.Omega.{arith}
 use lib.ListN.{length-set}
 use Rattle.loops.specs.Place.{Placed, placed}

@@ -24,16 +24,15 @@ front c =
 
 pub returns : goal.returns
 unfolding both_sides
-returns c =
-    (
-      rw (
-        c.reflect_with_sign.ensures,
-        c.reflect_rows_with_sign.ensures,
-        c.copy_from.ensures,
-        front (goal.at.returns c).Start,
-      ),
-      c.copy_from.ensures,
-    )
+returns c = (
+  rw (
+    c.reflect_with_sign.ensures,
+    c.reflect_rows_with_sign.ensures,
+    c.copy_from.ensures,
+    front (goal.at.returns c).Start,
+  ),
+  c.copy_from.ensures,
+)
 
 pub overflow_mul-a : goal.overflow_mul-a
 overflow_mul-a c = omega (arith, bounds (goal.at.overflow_mul-a c).Start)

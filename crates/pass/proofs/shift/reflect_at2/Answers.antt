@@ -5,11 +5,11 @@ use Rattle.pass.proofs.shift.reflect_at2.Goals as goal
 pub returns-then-asked : goal.returns-then-asked
 unfolding reflected_at
 returns-then-asked c = rw (
-      c.reflect_rows2-then-asked.ensures,
-      c.reflect_rows2.ensures,
-      c.reflect2.ensures,
-      c.if-asked.true,
-    )
+  c.reflect_rows2-then-asked.ensures,
+  c.reflect_rows2.ensures,
+  c.reflect2.ensures,
+  c.if-asked.true,
+)
 
 pub returns-else-asked : goal.returns-else-asked
 unfolding reflected_at

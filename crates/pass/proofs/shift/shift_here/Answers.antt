@@ -33,10 +33,10 @@ returns c =
 
 pub loop-k-init : goal.loop-k-init
 loop-k-init c = record {
-      from = omega arith;
-      within = omega arith;
-      last = omega arith;
-      matrix = omega arith;
-      room = omega arith;
-      done = sym (range_none _ _ _);
-    }
+  from = omega arith;
+  within = omega arith;
+  last = omega arith;
+  matrix = omega arith;
+  room = omega arith;
+  done = sym (range_none _ _ _);
+}

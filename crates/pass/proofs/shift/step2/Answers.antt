@@ -3,8 +3,6 @@ use borrow.Author.Tests.{not-true, not-false}
 use Rattle.matrix.specs.Vectors.{list2}
 use Rattle.householder.specs.Axis.{axis_answer}
 use Rattle.pass.proofs.Stepping.{step_none, step_made}
-use Rattle.std.specs.Prelude.{not}
-use Rattle.std.proofs.Common.{ap}
 use Rattle.pass.proofs.shift.step2.Goals as goal
 
 pub returns-then-not-r : goal.returns-then-not-r

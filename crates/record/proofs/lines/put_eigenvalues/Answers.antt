@@ -1,5 +1,4 @@
 -- `record::lines::put_eigenvalues` meets its contract. Assumes nothing.
-use Prim.Native.Nat.{◌-◌}
 use native.Mathlib.Omega.{arith}
 use Rattle.record.specs.Text.{eigenvalue_lines}
 use Rattle.record.proofs.LineLoop.{listing_none, listing_more, listing_all}

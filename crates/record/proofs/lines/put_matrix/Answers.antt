@@ -1,5 +1,4 @@
 -- `record::lines::put_matrix` meets its contract. Assumes nothing.
-use Prim.Native.Nat.{◌-◌}
 use native.Mathlib.Omega.{arith}
 use Rattle.header.proofs.Rooms.{square_32}
 use Rattle.record.specs.Text.{matrix_lines}

@@ -1,5 +1,5 @@
 -- `scalar::root::digits` meets its contract. After k digits root * root + rem is the whole part of X's first 2 * k digits (`Digits`); after
--- 53 it is big_x itself, and what is left over decides the rounding. Assumes nothing.
+-- 53 it is X itself, and what is left over decides the rounding. Assumes nothing.
 use Rattle.std.proofs.Common.{arith}
 use Rattle.scalar.proofs.root.Steps.{digits_none, digits_one, digits_zero, digits_all, rest_up, rest_down}
 use Rattle.scalar.proofs.root.digits.Goals.{then-trial-next, else-trial-next}

@@ -1,4 +1,4 @@
--- `scalar::root::nearest` meets its contract: where the difference big_x + r - r * r has nothing in its upper word, it is exact, and its bounds
+-- `scalar::root::nearest` meets its contract: where the difference X + r - r * r has nothing in its upper word, it is exact, and its bounds
 -- are the two inequalities. Assumes nothing.
 use Rattle.std.proofs.Common.{◌≡◌, ◌+◌, ◌*◌, ◌^◌, arith}
 use mathlib.Core.Bool.{false≢true}
@@ -7,7 +7,7 @@ use Rattle.scalar.proofs.root.Steps.{take_it}
 use Rattle.scalar.proofs.root.nearest.Goals.{After-minus-left}
 use Rattle.scalar.proofs.root.nearest.Goals as goal
 
--- big_x + r is r * r and what the lower word holds
+-- X + r is r * r and what the lower word holds
 rest : (c : After-minus-left) → c.minus-left.result.hi ≡ 0
     → c.args.top * 2 ^ 42 + c.args.r
     ≡ c.args.r * c.args.r + c.minus-left.result.lo

@@ -1,4 +1,4 @@
--- `scalar::root::positive` meets its contract. Near 1 by the pattern alone; else each way out has an big_r that is nearest to the root of big_x,
+-- `scalar::root::positive` meets its contract. Near 1 by the pattern alone; else each way out has an R that is nearest to the root of X,
 -- and R's pattern is the answer's (`answer`). Assumes nothing.
 use Rattle.std.proofs.Common.{◌∙◌, arith}
 use Rattle.loops.specs.Tests.{truth}

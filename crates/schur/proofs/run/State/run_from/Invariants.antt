@@ -1,5 +1,5 @@
 -- `schur::run::State::run_from` meets its contract. Assumes nothing.
-use Prim.Native.Nat.{ℕ, ◌-◌}
+use Prim.Native.Nat.{ℕ}
 use mathlib.Core.Path.{◌≡◌}
 use lib.ListN.{length}
 use Rattle.pass.specs.declared.setting.Setting.{Setting}
