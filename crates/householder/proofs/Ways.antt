@@ -20,7 +20,8 @@ use Rattle.scalar.specs.Class.{is_zero}
 use Rattle.matrix.specs.Sum.{Order}
 use Rattle.matrix.specs.Vectors.{norm_squared, norm_of, unscaled, normalized}
 use Rattle.matrix.proofs.Each.{each_to-length}
-use Rattle.householder.specs.Axis.{axis_answer, signed_norm, factor_of, shifted, Way, way_reflected, way_all_zero, way_too_small, all_zero, way_of, in_way, axis_of}
+use Rattle.householder.specs.Axis.{axis_answer, signed_norm, factor_of, shifted, Way, way_reflected, way_all_zero}
+use Rattle.householder.specs.Axis.{way_too_small, all_zero, way_of, in_way, axis_of}
 
 -- a column without a number
 pub axis_empty : (sum : Order) (c : List Float) → length c ≡ 0 → axis_answer c zero_f false ≡ axis_of sum c

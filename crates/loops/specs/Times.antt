@@ -1,9 +1,9 @@
 -- A counted loop as a function. `times f n a` is a after turns 0, 1, .., n - 1, where turn i takes the state x to f i
 -- x. `range f a b s` is `for i in a..b`: s after turns a, a + 1, .., b - 1, and s itself where b ≤ a. A loop's
--- invariant says that the state is `times f i` (or `range f a i`) of the state at the start: `-none` begins it, `-more`
--- keeps it, `-done` ends it. What a loop does to all it runs over is `-hold`, and `-walk` where that depends on the
--- turn; what it leaves alone, `-frame`; what one turn put somewhere, `-at`. Two portions one after the other are
--- `-portions`.
+-- invariant says that the state is `times f i` (or `range f a i`) of the state at the start: `_none` begins it, `_more`
+-- keeps it, `_done` ends it. What a loop does to all it runs over is `_hold`, and `_walk` where that depends on the
+-- turn; what it leaves alone, `_frame`; what one turn put somewhere, `_at`. Two portions one after the other are
+-- `_portions`.
 use Rattle.std.specs.Prelude.{◌≡◌, refl, ◌≢◌, List, ℕ, zero, suc, ◌+◌, ◌-◌, ◌<◌, ◌≤◌, max, length, get_or}
 use Rattle.std.proofs.Common.{sym, ap, ◌∙◌, add-zero, add-one, arith}
 use Rattle.std.proofs.Math.Decide.{dec_lt}

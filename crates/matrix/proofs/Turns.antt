@@ -1,6 +1,6 @@
 -- One turn of a kernel's loop. A kernel that goes down columns rewrites, at column j, the entries of two or three rows; one that goes along
 -- rows rewrites, at row i, the entries of two or three columns. Its memory t is the block done so far, of the matrix t₀ at entry.
--- `unread-*`: what the turn reads has not been rewritten yet. `down-*` and `across-*`: after the turn the block has one column, or one row, more.
+-- `unread_*`: what the turn reads has not been rewritten yet. `down_*` and `across_*`: after the turn the block has one column, or one row, more.
 -- Assumes nothing.
 use Prim.Native.Nat.{ℕ, ◌+◌, ◌*◌, ◌≤◌, ◌<◌}
 use mathlib.Core.Path.{◌≡◌, sym, ap, ◌∙◌}

@@ -31,7 +31,8 @@ use Rattle.decomposition.specs.Decomposition.{Outcome, outcome, Settlement, deci
 use Rattle.decomposition.proofs.CheckedArguments.{sizes_fit}
 use Rattle.eigenvalues.specs.Readers.{pair_check, diagonal, Read, read, left_by}
 use Rattle.eigenvalues.proofs.DiagonalSearch.{place_here, place_none}
-use Rattle.plain.specs.Plain.{plain_lengths, Sized, both_of, plain_two, plain_budget, plain_asked, plain_ran, complex_checked, plain_run, plain_read, plain_left}
+use Rattle.plain.specs.Plain.{plain_lengths, Sized, both_of, plain_two, plain_budget, plain_asked, plain_ran}
+use Rattle.plain.specs.Plain.{complex_checked, plain_run, plain_read, plain_left}
 use Rattle.plain.specs.Plain.{InPlace, in_place, plain_begun}
 
 -- ---- what the checks of the order and the lengths tell

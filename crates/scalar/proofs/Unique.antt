@@ -1,5 +1,7 @@
 -- `Rooted` has one solution: whatever value of binary64 meets the words of the scope is `root_of`. Assumes nothing.
-use Rattle.std.proofs.Common.{◌≡◌, ℕ, zero, suc, ◌+◌, ◌-◌, ◌*◌, ◌/◌, ◌^◌, ◌<◌, ◌≤◌, Bool, true, false, not, T, leb, ℤ, sym, ap, ◌∙◌, subst, true≢false, lt_irrefl, mul_assoc, mul-le-mul_left, mul-pos, zero-mul, mul_right_comm, mul-div_cancel, arith, leb→le, pow_pos, pow-add}
+use Rattle.std.proofs.Common.{◌≡◌, ℕ, zero, suc, ◌+◌, ◌-◌, ◌*◌, ◌/◌, ◌^◌, ◌<◌, ◌≤◌, Bool, true, false, not, T, leb, ℤ}
+use Rattle.std.proofs.Common.{sym, ap, ◌∙◌, subst, true≢false, lt_irrefl, mul_assoc, mul-le-mul_left, mul-pos}
+use Rattle.std.proofs.Common.{zero-mul, mul_right_comm, mul-div_cancel, arith, leb→le, pow_pos, pow-add}
 use native.Mathlib.Nat.{eq_of_mul-eq-mul_right}
 use lib.Dec.{nleb→lt}
 use lib.Ieee.{Float, nan, inf, fin, up, down, size, binary64, fits, to_bits, of_bits}

@@ -10,7 +10,7 @@
  * how a double stands in memory on x86-64: lend (uint8_t *)doubles. Lengths are in bytes, and have to be
  * 8 * n * n for a matrix and 8 * n for a list. No address has to be a multiple of anything. Memory that
  * is written must overlap no other. The functions keep nothing, and may be called from many threads;
- * each needs up to 72 KiB of stack.
+ * each needs up to 76 KiB of stack.
  *
  * Row order: C and NumPy have a matrix row by row. Lent like that it is read as its transpose, and nothing says
  * so. In exact arithmetic the transpose has the same eigenvalues. Here rounding may change them, most often in

@@ -31,7 +31,7 @@
 //! Who has memory of his own lends it: [`decompose`], [`eigenvalues`], [`complex_eigenvalues`] and
 //! [`plain_eigenvalues`] allocate nothing. Who has bytes takes the same functions of [`bytes`]. The
 //! numbers of the refusals are told by [`Refusal`]. What the library works in stands on the stack:
-//! 72 KiB, which Rust's own threads have.
+//! 76 KiB, which Rust's own threads have.
 //!
 //! # Row order
 //!

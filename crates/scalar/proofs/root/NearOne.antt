@@ -1,5 +1,6 @@
 -- Near 1 the pattern of the root is half way between the pattern and that of 1, rounded down. Assumes nothing.
-use Rattle.std.proofs.Common.{◌≡◌, ℕ, zero, suc, ◌+◌, ◌-◌, ◌*◌, ◌/◌, ◌%◌, ◌^◌, ◌<◌, ◌≤◌, Bool, true, false, not, T, leb, ◌⊎◌, sym, refl, ap, ◌∙◌, subst, inl, inr, mul-le-mul, arith, leb→le}
+use Rattle.std.proofs.Common.{◌≡◌, ℕ, zero, suc, ◌+◌, ◌-◌, ◌*◌, ◌/◌, ◌%◌, ◌^◌, ◌<◌, ◌≤◌, Bool, true, false, not, T}
+use Rattle.std.proofs.Common.{leb, ◌⊎◌, sym, refl, ap, ◌∙◌, subst, inl, inr, mul-le-mul, arith, leb→le}
 use lib.Dec.{nleb→lt}
 use lib.Ieee.{binary64, of_bits}
 use Rattle.scalar.specs.Root.{root_of}

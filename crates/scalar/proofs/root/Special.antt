@@ -1,5 +1,6 @@
 -- The root of each pattern that is not positive and finite. Assumes nothing.
-use Rattle.std.proofs.Common.{◌≡◌, ℕ, zero, suc, ◌+◌, ◌*◌, ◌/◌, ◌%◌, ◌^◌, ◌<◌, ◌≤◌, Bool, true, false, cond, not, T, eqb, leb, ◌≢◌, sym, refl, ap, ◌∙◌, mul-pos, arith, leb→le, pow_pos, le-leb}
+use Rattle.std.proofs.Common.{◌≡◌, ℕ, zero, suc, ◌+◌, ◌*◌, ◌/◌, ◌%◌, ◌^◌, ◌<◌, ◌≤◌, Bool, true, false, cond, not, T}
+use Rattle.std.proofs.Common.{eqb, leb, ◌≢◌, sym, refl, ap, ◌∙◌, mul-pos, arith, leb→le, pow_pos, le-leb}
 use lib.Dec.{nleb→lt}
 use lib.Ieee.{Float, nan, inf, odd, binary64, of_bits, of_fields, to_bits, fits, ne, nan_bits}
 use lib.Ieee.Exact.{odd_sign}

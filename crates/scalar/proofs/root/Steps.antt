@@ -1,6 +1,7 @@
 -- What the loops and tests of the root's functions come to, in plain numbers: digit by digit, a subnormal number lifted, a normal one placed,
 -- a candidate taken. Assumes nothing.
-use Rattle.std.proofs.Common.{◌≡◌, ℕ, zero, suc, ◌+◌, ◌-◌, ◌*◌, ◌/◌, ◌%◌, ◌^◌, ◌<◌, ◌≤◌, ◌≢◌, sym, refl, ap, ◌∙◌, subst, lt_of_lt_of_le, mul-le-mul, arith, pow_mono, pow-add}
+use Rattle.std.proofs.Common.{◌≡◌, ℕ, zero, suc, ◌+◌, ◌-◌, ◌*◌, ◌/◌, ◌%◌, ◌^◌, ◌<◌, ◌≤◌, ◌≢◌, sym, refl, ap, ◌∙◌}
+use Rattle.std.proofs.Common.{subst, lt_of_lt_of_le, mul-le-mul, arith, pow_mono, pow-add}
 use Rattle.scalar.specs.Rooted.{Near}
 use Rattle.scalar.specs.Inner.{Placed}
 use Rattle.scalar.proofs.root.Units.{units_of_low, units_of_normal}

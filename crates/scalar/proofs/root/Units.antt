@@ -1,5 +1,9 @@
 -- From bit patterns to whole numbers of smallest values and back: what the root of a pattern is. Assumes nothing.
-use Rattle.std.proofs.Common.{◌≡◌, ℕ, zero, suc, ◌+◌, ◌-◌, ◌*◌, ◌/◌, ◌%◌, ◌^◌, ◌<◌, ◌≤◌, Bool, true, false, cond, not, T, eqb, ltb, leb, ℤ, pos, negsuc, sym, refl, ap, ◌∙◌, subst, true≢false, lt_of_lt_of_le, lt_irrefl, mul-le-mul_right, mul-lt-mul_of_pos_right, mul-pos, lt_of_not-le, zero-mul, mul-one, not-le_of_lt, mul-div_cancel, arith, ltb→lt, leb→le, nltb→le, pow_pos, pow_mono, pow-add, le-ltb, lt-ltb, ne_eqb, le-leb}
+use Rattle.std.proofs.Common.{◌≡◌, ℕ, zero, suc, ◌+◌, ◌-◌, ◌*◌, ◌/◌, ◌%◌, ◌^◌, ◌<◌, ◌≤◌, Bool, true, false, cond, not}
+use Rattle.std.proofs.Common.{T, eqb, ltb, leb, ℤ, pos, negsuc, sym, refl, ap, ◌∙◌, subst, true≢false, lt_of_lt_of_le}
+use Rattle.std.proofs.Common.{lt_irrefl, mul-le-mul_right, mul-lt-mul_of_pos_right, mul-pos, lt_of_not-le, zero-mul}
+use Rattle.std.proofs.Common.{mul-one, not-le_of_lt, mul-div_cancel, arith, ltb→lt, leb→le, nltb→le, pow_pos}
+use Rattle.std.proofs.Common.{pow_mono, pow-add, le-ltb, lt-ltb, ne_eqb, le-leb}
 use mathlib.Core.Bool.{false≢true}
 use lib.Dec.{nleb→lt}
 use lib.Count.{count_trailing_zeros}

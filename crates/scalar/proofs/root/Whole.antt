@@ -1,5 +1,7 @@
 -- The whole-number root: what `floor_root` and `whole_root` are, and that the inequalities have one solution. Assumes nothing.
-use Rattle.std.proofs.Common.{◌≡◌, ℕ, zero, suc, ◌+◌, ◌-◌, ◌*◌, ◌/◌, ◌^◌, ◌<◌, ◌≤◌, Bool, true, false, cond, not, T, ltb, leb, ◌≢◌, ◌⊎◌, sym, subst, inl, inr, mul-le-mul_right, mul-le-mul, eq-or-lt_of_le, arith, ltb→lt, leb→le, nltb→le}
+use Rattle.std.proofs.Common.{◌≡◌, ℕ, zero, suc, ◌+◌, ◌-◌, ◌*◌, ◌/◌, ◌^◌, ◌<◌, ◌≤◌, Bool, true, false, cond, not, T}
+use Rattle.std.proofs.Common.{ltb, leb, ◌≢◌, ◌⊎◌, sym, subst, inl, inr, mul-le-mul_right, mul-le-mul, eq-or-lt_of_le}
+use Rattle.std.proofs.Common.{arith, ltb→lt, leb→le, nltb→le}
 use native.Mathlib.Nat.{pow-succ'}
 use lib.Dec.{nleb→lt}
 use Rattle.scalar.specs.Root.{floor_root, whole_root}

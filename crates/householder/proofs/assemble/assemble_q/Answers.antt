@@ -12,7 +12,8 @@ use Rattle.householder.specs.Assembled.{identity, with_axis, assembled}
 use Rattle.householder.proofs.Empty.{assembled_empty}
 use Rattle.std.specs.Prelude.{not}
 use Rattle.std.proofs.Common.{ap}
-use Rattle.householder.proofs.assemble.assemble_q.Goals.{After-block_fits, After-block_fits-2, Else-last-signs, Else-not-block_fits, Else-not-block_fits-2, In-loop-i}
+use Rattle.householder.proofs.assemble.assemble_q.Goals.{After-block_fits, After-block_fits-2, Else-last-signs}
+use Rattle.householder.proofs.assemble.assemble_q.Goals.{Else-not-block_fits, Else-not-block_fits-2, In-loop-i}
 use Rattle.householder.proofs.assemble.assemble_q.Goals as goal
 
 -- the two tests of a whole matrix
