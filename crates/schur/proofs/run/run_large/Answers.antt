@@ -1,5 +1,6 @@
 -- `schur::run::run_large` meets its contract. Assumes nothing.
 use mathlib.Core.Path.{◌≡◌, ap, ◌∙◌}
+use native.Mathlib.Omega.{arith}
 use Rattle.pass.specs.Pair.{pair}
 use Rattle.schur.specs.Run.{running, run_from, opened}
 use Rattle.schur.proofs.RunAnswers.{answered_reached, answered_ended}
@@ -19,4 +20,6 @@ returns-then-s-budget c =
 
 pub returns : goal.returns
 returns c =
-    rw (c.scale_mut.ensures, c.begin-begun.ensures.amax) (answered_ended _ _ _ _ _ (ran (goal.at.returns c).After-run_from-s) c.if-s-budget.false)
+    rw (c.scale_mut.ensures, c.begin-begun.ensures.amax)
+    (answered_ended _ _ _ _ _ (ran (goal.at.returns c).After-run_from-s)
+    (λ (e : c.run_from-s.result.passes ≡ c.args.budget). absurd (omega arith)))

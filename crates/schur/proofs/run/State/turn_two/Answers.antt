@@ -16,4 +16,4 @@ unfolding turn_two
 returns c =
     let there = c.after.ensures in
     let inside : c.args.self.window.end - 2 < c.args.asked.order = omega arith in
-    counted_turned there inside (rw (lt-leb _ _ c.if-end-le2.false, ← c.split.ensures) (there.is _))
+    counted_turned there inside (rw (lt-leb c.args.self.window.end 2 (omega arith), ← c.split.ensures) (there.is _))
