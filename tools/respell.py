@@ -22,6 +22,8 @@ top, in that file, unless another file imports them; NAME-spec everywhere; names
 Turned: code of .antt files; clauses and `ghost use` of crates/*/src/**/*.rt; between backticks, the comments of both and
 the papers (for these only what is declared, no locals). Strings and Rust code stay.
 
+It was run once, behind the kit's port.py (docs/PORT.md), on proofs in the older form. In today's form a proof answers
+goals, whose names are Rattle's, so it refuses a tree that has an Answers.antt (exit 2, nothing written).
 It refuses (exit 1, nothing written) where a new name falls together with another name of a file that has it, with a word of
 antt, or where a function's parameter would hide it in a .rt file. OVERRIDE mends that.
 --check writes nothing. --report lists the dictionary and the new names that are also names of Rattle functions.
@@ -471,6 +473,9 @@ def edits(check):
 
 
 def main(argv):
+    if glob.glob("crates/*/proofs/**/Answers.antt", recursive=True):
+        print("respell: the names of this tree are turned already: it has an Answers.antt", file=sys.stderr)
+        return 2
     if not os.path.isdir("crates"):
         print("respell: run it at the top of the repository")
         return 2

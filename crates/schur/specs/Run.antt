@@ -142,6 +142,12 @@ count_of asked t =
     cond (eqb asked.order 1) 0
     (cond (eqb asked.order 2) 0 (passes_at (run_from asked largest_budget (opened_of asked t))))
 
+-- ---- the window at a budget: of the matrix alone too
+
+-- what is open when the counted passes have reached the budget, after delimiting
+unfoldable pub window_of : Setting → (budget : ℕ) → (t : List Float) → Window
+window_of asked budget t = (run_from asked budget (opened_of asked t)).state.window
+
 -- ---- where something does not fit
 
 -- where something does not fit nothing is done

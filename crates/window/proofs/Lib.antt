@@ -1,3 +1,4 @@
--- `Lengths`: delimiting keeps the length of T. Other crates may cite it.
+-- `Lengths`: delimiting keeps the length of T; `Standing`: where the window stands behind it. Other crates may cite them.
 pub mod Lengths
+pub mod Standing
 mod Delimiting

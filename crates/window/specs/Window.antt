@@ -1,7 +1,7 @@
 -- The window: the rows and columns, from `start` to `end`, that the next pass works on (document 01, step 5;
 -- docs/SUMS.md, 7.6). T is a matrix of order n, eps the tolerance. An entry just below the diagonal is named by its row
 -- i, 1 or more: it stands in column i - 1.
-use Rattle.std.specs.Prelude.{ℕ, ◌+◌, ◌-◌, Bool, cond, not, ◌||◌, List, eqb, length, set, Float}
+use Rattle.std.specs.Prelude.{◌≡◌, ◌<◌, ◌≤◌, ℕ, ◌+◌, ◌-◌, Bool, cond, not, ◌||◌, List, eqb, length, set, Float}
 use Rattle.std.specs.Float.Ieee.{le}
 use Rattle.loops.specs.Constants.{zero}
 use Rattle.loops.specs.Place.{place}
@@ -76,3 +76,9 @@ delimit_here n eps e t =
 -- the same for every e: where T has no row e nothing is done, and the window is closed
 unfoldable pub delimit_of : (n : ℕ) → (eps : Float) → (end : ℕ) → (t : List Float) → Delimited
 delimit_of n eps e t = cond (block_fits n (length t) (e + 1) (e + 1)) (delimit_here n eps e t) (delimited (window 0 0) t)
+
+-- ---- where a window that was sought from row e upward can stand: it has closed, or its rows lie there
+
+pub data Standing (e : ℕ) (w : Window) : Type 0 where
+  shut : w ≡ window 0 0 → Standing e w
+  still : w.start < w.end → w.end ≤ e → Standing e w

@@ -31,7 +31,10 @@ returns-then-not-block_fits c = rw (outside (first (goal.at.returns-then-not-blo
 
 pub returns-then-not-work_fits : goal.returns-then-not-work_fits
 unfolding reduced work_fits
-returns-then-not-work_fits c = rw (inside (first (goal.at.returns-then-not-work_fits c).After-block_fits) (ap not c.if-not-block_fits.false), outside c.work_fits.ensures (ap not c.if-not-work_fits.true))
+returns-then-not-work_fits c = rw (
+  inside (first (goal.at.returns-then-not-work_fits c).After-block_fits) (ap not c.if-not-block_fits.false),
+  outside c.work_fits.ensures (ap not c.if-not-work_fits.true),
+)
 
 pub loop-k-init : goal.loop-k-init
 loop-k-init c =

@@ -19,14 +19,19 @@ begun : (c : Else-not-block_fits) → let x = c.args in
 begun c = down_begun _ _ _ _ _ _ _ (from_row_0 _ _ _ _ c.block_fits.ensures) (ap not c.if-not-block_fits.false)
 
 pub returns-then-not-block_fits : goal.returns-then-not-block_fits
-returns-then-not-block_fits c = unpacked_h_idle _ _ _ (down_refused _ _ _ _ _ _ _ (from_row_0 _ _ _ _ c.block_fits.ensures) (ap not c.if-not-block_fits.true))
+returns-then-not-block_fits c =
+    unpacked_h_idle _ _ _ (down_refused _ _ _ _ _ _ _ (from_row_0 _ _ _ _ c.block_fits.ensures) (ap not c.if-not-block_fits.true))
 
 pub returns-then-not-work_fits : goal.returns-then-not-work_fits
 unfolding unpacked_h work_fits
 returns-then-not-work_fits c = rw (outside c.work_fits.ensures (ap not c.if-not-work_fits.true))
 
 pub loop-j-init : goal.loop-j-init
-loop-j-init c = record { walk = begun (goal.at.loop-j-init c).Else-not-block_fits; order = omega arith; room = eqb-true _ _ (inside c.work_fits.ensures (ap not c.if-not-work_fits.false)) }
+loop-j-init c = record {
+  walk = begun (goal.at.loop-j-init c).Else-not-block_fits;
+  order = omega arith;
+  room = eqb-true _ _ (inside c.work_fits.ensures (ap not c.if-not-work_fits.false));
+}
 
 pub loop-j-preserved : goal.loop-j-preserved
 loop-j-preserved c =

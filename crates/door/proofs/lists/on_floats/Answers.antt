@@ -26,15 +26,15 @@ write_list-requires c =
     omega (arith, (fit (goal.at.write_list-requires c).Start).list)
 
 -- the complex reader's second list, whose room has n numbers
-pair-sized : {e : ListEntry} (n jn : ℕ) (y : List Float) → e ≡ Complex → second_length e n jn ≡ Passed → y ≡ zeros (second_size e n) → jn ≡ 8 * length y
+pair_sized : {e : ListEntry} (n jn : ℕ) (y : List Float) → e ≡ Complex → second_length e n jn ≡ Passed → y ≡ zeros (second_size e n) → jn ≡ 8 * length y
 unfolding second_size
-pair-sized n jn y h lent zero =
+pair_sized n jn y h lent zero =
     let long : length y ≡ n = ap length (rw h at zero) ∙ zeros-length n in
     omega (arith, complex_second n jn (rw h at lent))
 
 pub write_second-requires : goal.write_second-requires
 write_second-requires c =
-    λ e. omega (arith, pair-sized c.args.c.order _ c.args.y.now e (fit (goal.at.write_second-requires c).Start).second c.requires.second)
+    λ e. omega (arith, pair_sized c.args.c.order _ c.args.y.now e (fit (goal.at.write_second-requires c).Start).second c.requires.second)
 
 pub returns : goal.returns
 returns c =

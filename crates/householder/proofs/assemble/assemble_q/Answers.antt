@@ -28,9 +28,9 @@ second c = from_row_0 _ _ _ _ (from_column_0 _ _ _ _ c.block_fits-2.ensures)
 fitted : (c : Else-not-block_fits) → let x = c.args in Fits x.n (length x.m.now) x.n x.n
 fitted c = within _ _ _ _ (from_row_0 _ _ _ _ (from_column_0 _ _ _ _ c.block_fits.ensures)) (ap not c.if-not-block_fits.false)
 
-fitted-q : (c : Else-not-block_fits-2)
+fitted_q : (c : Else-not-block_fits-2)
     → let x = c.args in Fits x.n (length x.q.now) x.n x.n
-fitted-q c = within _ _ _ _ (from_row_0 _ _ _ _ (from_column_0 _ _ _ _ c.block_fits-2.ensures)) (ap not c.if-not-block_fits-2.false)
+fitted_q c = within _ _ _ _ (from_row_0 _ _ _ _ (from_column_0 _ _ _ _ c.block_fits-2.ensures)) (ap not c.if-not-block_fits-2.false)
 
 -- after the tests
 passed : (c : Else-last-signs) → let x = c.args in
@@ -52,7 +52,10 @@ returns-then-not-block_fits c = rw (outside (first (goal.at.returns-then-not-blo
 
 pub returns-then-not-block_fits-2 : goal.returns-then-not-block_fits-2
 unfolding assembled
-returns-then-not-block_fits-2 c = rw (inside (first (goal.at.returns-then-not-block_fits-2 c).After-block_fits) (ap not c.if-not-block_fits.false), outside (second (goal.at.returns-then-not-block_fits-2 c).After-block_fits-2) (ap not c.if-not-block_fits-2.true))
+returns-then-not-block_fits-2 c = rw (
+  inside (first (goal.at.returns-then-not-block_fits-2 c).After-block_fits) (ap not c.if-not-block_fits.false),
+  outside (second (goal.at.returns-then-not-block_fits-2 c).After-block_fits-2) (ap not c.if-not-block_fits-2.true),
+)
 
 pub returns-then-n-eq0 : goal.returns-then-n-eq0
 returns-then-n-eq0 c = assembled_empty _ _ _ _ c.if-n-eq0.true
@@ -70,7 +73,7 @@ loop-i-init c = record {
   matrix = fitted (goal.at.loop-i-init c).Else-not-block_fits;
   order = omega arith;
   signed = omega arith;
-  size = omega (arith, fitted-q (goal.at.loop-i-init c).Else-not-block_fits-2);
+  size = omega (arith, fitted_q (goal.at.loop-i-init c).Else-not-block_fits-2);
   within = omega arith;
   rest = refl;
 }
@@ -96,7 +99,7 @@ returns c =
     sym (down_none _ _) ∙ rw e at c.loop-i.invariant.rest ∙ rw c.fill_with_identity.ensures (sym (passed (goal.at.returns c).Else-last-signs))
 
 pub fill_with_identity-requires : goal.fill_with_identity-requires
-fill_with_identity-requires c = omega (arith, fitted-q (goal.at.fill_with_identity-requires c).Else-not-block_fits-2)
+fill_with_identity-requires c = omega (arith, fitted_q (goal.at.fill_with_identity-requires c).Else-not-block_fits-2)
 
 pub overflow_mul-a : goal.overflow_mul-a
 overflow_mul-a c = omega (arith, bounds c)
@@ -123,4 +126,4 @@ pub slice_bounds-reflect_with_sign-end : goal.slice_bounds-reflect_with_sign-end
 slice_bounds-reflect_with_sign-end c = omega (arith, bounds c)
 
 pub shape_of-q : goal.shape_of-q
-shape_of-q c = omega (arith, fitted-q (goal.at.shape_of-q c).Else-not-block_fits-2)
+shape_of-q c = omega (arith, fitted_q (goal.at.shape_of-q c).Else-not-block_fits-2)

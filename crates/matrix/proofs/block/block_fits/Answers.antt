@@ -13,22 +13,22 @@ use Rattle.std.proofs.Common.{ap}
 use Rattle.matrix.proofs.block.block_fits.Goals as goal
 
 -- the last test of four decides alone where it fails, and not at all where it holds
-last-fails : (a b d : Bool) → false ≡ a && (b && (d && false))
-last-fails false b d = refl
-last-fails true false d = refl
-last-fails true true false = refl
-last-fails true true true = refl
+last_fails : (a b d : Bool) → false ≡ a && (b && (d && false))
+last_fails false b d = refl
+last_fails true false d = refl
+last_fails true true false = refl
+last_fails true true true = refl
 
-last-holds : (d : Bool) → d && true ≡ d
-last-holds false = refl
-last-holds true = refl
+last_holds : (d : Bool) → d && true ≡ d
+last_holds false = refl
+last_holds true = refl
 
 pub returns-then-not-span_fits : goal.returns-then-not-span_fits
 unfolding block_fits
 returns-then-not-span_fits c =
     let x = c.args in
     rw (← c.span_fits.ensures, not-true c.span_fits.result (ap not c.if-not-span_fits.true))
-    (last-fails (leb x.n 64) (eqb x.len (x.n * x.n)) (leb (x.row + x.rows) x.n))
+    (last_fails (leb x.n 64) (eqb x.len (x.n * x.n)) (leb (x.row + x.rows) x.n))
 
 pub returns-then-n-gt64 : goal.returns-then-n-gt64
 unfolding block_fits
@@ -47,7 +47,7 @@ returns c =
       ← c.span_fits.ensures,
       not-false c.span_fits.result (ap not c.if-not-span_fits.false),
       c.span_fits-2.ensures,
-      last-holds,
+      last_holds,
     )
 
 pub overflow_mul-n : goal.overflow_mul-n

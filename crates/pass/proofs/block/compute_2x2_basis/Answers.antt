@@ -32,7 +32,8 @@ made c d h =
     (sym c.in-Real.is ∙ c.compute_2x2_eigvals.ensures) (asked ∙ h)
 
 pub returns-then-modulus : goal.returns-then-modulus
-returns-then-modulus c = ap (λ turn. Rotate turn.rotation) c.new.ensures ∙ made (goal.at.returns-then-modulus c).After-modulus-2 true c.if-modulus.true
+returns-then-modulus c =
+    ap (λ turn. Rotate turn.rotation) c.new.ensures ∙ made (goal.at.returns-then-modulus c).After-modulus-2 true c.if-modulus.true
 
 pub returns : goal.returns
 returns c = ap (λ turn. Rotate turn.rotation) c.new-2.ensures ∙ made (goal.at.returns c).After-modulus-2 false c.if-modulus.false

@@ -24,7 +24,8 @@ matrix c = within _ _ _ _ (from_row_0 _ _ _ _ (from_column_0 _ _ _ _ c.block_fit
 
 fitted : (c : Else-end-n)
     → let x = c.args in Fits x.asked.order (length x.t.now) (x.w.end + 1) (x.w.end + 1)
-fitted c = present _ _ _ (within _ _ _ _ (from_row_0 _ _ _ _ (from_column_0 _ _ _ _ c.block_fits.ensures)) (ap not c.if-not-block_fits.false)) (omega arith)
+fitted c =
+    present _ _ _ (within _ _ _ _ (from_row_0 _ _ _ _ (from_column_0 _ _ _ _ c.block_fits.ensures)) (ap not c.if-not-block_fits.false)) (omega arith)
 
 there : (c : Else-end-n)
     → let x = c.args in block_fits x.asked.order (length x.t.now) (x.w.end + 1) (x.w.end + 1) ≡ true
@@ -32,7 +33,8 @@ there c = let f = fitted c in fitting _ _ _ _ f.order f.size f.in_rows f.in_cols
 
 pub returns-then-not-block_fits : goal.returns-then-not-block_fits
 unfolding pass_of
-returns-then-not-block_fits c = rw (no_matrix _ _ c.args.w.end (outside (whole (goal.at.returns-then-not-block_fits c).After-block_fits) (ap not c.if-not-block_fits.true)))
+returns-then-not-block_fits c =
+    rw (no_matrix _ _ c.args.w.end (outside (whole (goal.at.returns-then-not-block_fits c).After-block_fits) (ap not c.if-not-block_fits.true)))
 
 pub returns-then-end-gt64 : goal.returns-then-end-gt64
 unfolding pass_of
@@ -62,7 +64,8 @@ returns c =
 
 -- the place of the last entry, where both numbers are at most 64
 room : (c : Else-end-gt64) → let x = c.args in x.w.end * x.asked.order ≤ 4096
-room c = let f = within _ _ _ _ (from_row_0 _ _ _ _ (from_column_0 _ _ _ _ c.block_fits.ensures)) (ap not c.if-not-block_fits.false) in product_64 _ _ (omega arith) f.order
+room c =
+    let f = within _ _ _ _ (from_row_0 _ _ _ _ (from_column_0 _ _ _ _ c.block_fits.ensures)) (ap not c.if-not-block_fits.false) in product_64 _ _ (omega arith) f.order
 
 pub overflow_mul-end : goal.overflow_mul-end
 overflow_mul-end c = omega (arith, room c)

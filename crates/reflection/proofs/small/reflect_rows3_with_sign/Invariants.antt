@@ -6,7 +6,9 @@ use Rattle.reflection.specs.Reflected.{mirrored_rows}
 use Rattle.reflection.proofs.small.reflect_rows3_with_sign.Given as goal
 
 abbrev pub invariant-loop-i : goal.invariant-loop-i
-invariant-loop-i l = Across l.n l.rows l.c0 (l.c0 + 3) (mirrored_rows (list3 (record { x = l.x; y = l.y; z = l.z })) l.sign l.n l.c0 l.initial.t) l.initial.t l.i l.t
+invariant-loop-i l =
+    Across l.n l.rows l.c0 (l.c0 + 3)
+    (mirrored_rows (list3 (record { x = l.x; y = l.y; z = l.z })) l.sign l.n l.c0 l.initial.t) l.initial.t l.i l.t
 
 abbrev pub decreases-loop-i : goal.decreases-loop-i
 decreases-loop-i l = l.rows - l.i

@@ -38,7 +38,8 @@ returns-then-all_finite c = let x = c.args in
 
 pub place_not_finite-requires : goal.place_not_finite-requires
 unfolding first_not_finite
-place_not_finite-requires c = omega (arith, within _ _ _ _ (whole (goal.at.place_not_finite-requires c).After-block_fits) (ap not c.if-not-block_fits.false))
+place_not_finite-requires c =
+    omega (arith, within _ _ _ _ (whole (goal.at.place_not_finite-requires c).After-block_fits) (ap not c.if-not-block_fits.false))
 
 pub returns : goal.returns
 unfolding first_not_finite

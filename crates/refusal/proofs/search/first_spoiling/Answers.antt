@@ -19,7 +19,8 @@ returns-then-not-block_fits c = rw (outside (whole (goal.at.returns-then-not-blo
 
 pub place_spoiling-requires : goal.place_spoiling-requires
 unfolding first_spoiling
-place_spoiling-requires c = omega (arith, within _ _ _ _ (whole (goal.at.place_spoiling-requires c).After-block_fits) (ap not c.if-not-block_fits.false))
+place_spoiling-requires c =
+    omega (arith, within _ _ _ _ (whole (goal.at.place_spoiling-requires c).After-block_fits) (ap not c.if-not-block_fits.false))
 
 pub returns : goal.returns
 unfolding first_spoiling

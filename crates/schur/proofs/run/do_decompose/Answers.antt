@@ -22,7 +22,8 @@ returns-then-not-run_fits c =
     record { q_after = rw unfit; work_after = rw unfit }
 
 pub run_fitting-ran-requires : goal.run_fitting-ran-requires
-run_fitting-ran-requires c = let f = fitted (goal.at.run_fitting-ran-requires c).Else-not-run_fits in (record { order = f.order; size = f.size }, f.some)
+run_fitting-ran-requires c =
+    let f = fitted (goal.at.run_fitting-ran-requires c).Else-not-run_fits in (record { order = f.order; size = f.size }, f.some)
 
 pub returns : goal.returns
 unfolding run_of work_after

@@ -27,7 +27,10 @@ returns-then-n-eq0 c = rw (lt-leb 1 c.args.n (omega arith))
 
 pub returns-then-not-block_fits : goal.returns-then-not-block_fits
 unfolding run_fits
-returns-then-not-block_fits c = rw (some (goal.at.returns-then-not-block_fits c).After-block_fits, outside (whole (goal.at.returns-then-not-block_fits c).After-block_fits) (ap not c.if-not-block_fits.true))
+returns-then-not-block_fits c = rw (
+  some (goal.at.returns-then-not-block_fits c).After-block_fits,
+  outside (whole (goal.at.returns-then-not-block_fits c).After-block_fits) (ap not c.if-not-block_fits.true),
+)
 
 pub overflow_mul-result : goal.overflow_mul-result
 unfolding run_fits

@@ -11,11 +11,13 @@ use Rattle.words.proofs.floats.encode.Goals as goal
 -- another number of floats, and then some bytes too many: b is left alone
 pub returns-then-b-a : goal.returns-then-b-a
 returns-then-b-a c =
-    let same = left_alone (λ (e : length c.args.b.now ≡ 8 * length c.args.a.now). c.if-b-a.true (omega arith)) in record { b_after = same.0; b_after_2 = same.1 }
+    let same = left_alone (λ (e : length c.args.b.now ≡ 8 * length c.args.a.now). c.if-b-a.true (omega arith)) in
+    record { b_after = same.0; b_after_2 = same.1 }
 
 pub returns-then-b-ne0 : goal.returns-then-b-ne0
 returns-then-b-ne0 c =
-    let same = left_alone (λ (e : length c.args.b.now ≡ 8 * length c.args.a.now). c.if-b-ne0.true (omega arith)) in record { b_after = same.0; b_after_2 = same.1 }
+    let same = left_alone (λ (e : length c.args.b.now ≡ 8 * length c.args.a.now). c.if-b-ne0.true (omega arith)) in
+    record { b_after = same.0; b_after_2 = same.1 }
 
 pub loop-k-preserved : goal.loop-k-preserved
 loop-k-preserved c =

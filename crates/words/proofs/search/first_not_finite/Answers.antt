@@ -29,7 +29,10 @@ none n b h e finite = sym (none_nowhere _ n (λ i j k l. ap not (finite _ (omega
 
 pub returns-then-not-block_fits : goal.returns-then-not-block_fits
 unfolding first_not_finite
-returns-then-not-block_fits c = rw (floats_of-length, outside (whole (goal.at.returns-then-not-block_fits c).After-block_fits) (ap not c.if-not-block_fits.true))
+returns-then-not-block_fits c = rw (
+  floats_of-length,
+  outside (whole (goal.at.returns-then-not-block_fits c).After-block_fits) (ap not c.if-not-block_fits.true),
+)
 
 pub returns-then-all_finite : goal.returns-then-all_finite
 unfolding first_not_finite
@@ -40,7 +43,8 @@ returns-then-all_finite c = let x = c.args in
 
 pub place_not_finite-requires : goal.place_not_finite-requires
 unfolding first_not_finite
-place_not_finite-requires c = omega (arith, within _ _ _ _ (whole (goal.at.place_not_finite-requires c).After-block_fits) (ap not c.if-not-block_fits.false))
+place_not_finite-requires c =
+    omega (arith, within _ _ _ _ (whole (goal.at.place_not_finite-requires c).After-block_fits) (ap not c.if-not-block_fits.false))
 
 pub returns : goal.returns
 unfolding first_not_finite
