@@ -1,4 +1,4 @@
-# What the tests in Perl have in common (tools/test_record, test_roots, test_package and test_readme): files of their own,
+# What the tests in Perl have in common (tools/test_record, test_roots, test_refusals and others): files of their own,
 # programs run on an input, and what came out held to what is right.
 use strict;
 use warnings;

@@ -5,6 +5,7 @@
 
 mod accuracy;
 mod bench;
+mod budgets;
 mod call;
 mod compare;
 mod crate_side;
@@ -50,6 +51,7 @@ const COMMANDS: &[(&str, &str, Run)] = &[
         "[--count THOUSANDS] [--seed HEX] [--repeat TIMES]",
         bench::run,
     ),
+    ("budgets", "[--count COUNT] [--seed HEX]", budgets::run),
     (
         "compare",
         "[--count THOUSANDS] [--large COUNT] [--seed HEX] [--file FILE]",

@@ -3,7 +3,7 @@
 //! slices, one rounding per operation, no nalgebra. Entry (r, c) of order n stands at r + c*n.
 //! Here some of its functions are `pub(crate)` besides, for the command `leaves`, and the roots of the
 //! decomposition go through `root`, which keeps their arguments where the command `speed` asks for them;
-//! nothing else was changed.
+//! and a run that reaches its budget tells its window, for the command `budgets`. Nothing else was changed.
 
 use std::cell::RefCell;
 
@@ -29,9 +29,12 @@ pub fn schur_roots(mat: &[f64], n: usize, eps: f64, budget: u64, want_q: bool) -
 pub enum Run {
     /// `passes` counted passes, T and (if asked for) Q.
     Done { t: Vec<f64>, q: Vec<f64>, passes: u64 },
-    /// The counted passes reached the budget.
-    Budget,
+    /// The counted passes reached the budget: the window behind the last, after delimiting.
+    Budget { window: Window },
 }
+
+/// Start and end of a window. They are the same, 0, if it has closed.
+pub type Window = (usize, usize);
 
 /// to_exp of a real: (magnitude, sign). -0 answers (-0, 1); NaN answers (NaN, -1).
 pub fn to_exp(x: f64) -> (f64, f64) {
@@ -282,7 +285,7 @@ pub fn schur(mat: &[f64], n: usize, eps: f64, budget: u64, want_q: bool) -> Run 
         }
         (start, end) = delimit(&mut t, n, eps, end);
         passes += 1;
-        if passes == budget { return Run::Budget; }
+        if passes == budget { return Run::Budget { window: (start, end) }; }
     }
     for e in t.iter_mut() { *e *= amax; }
     Run::Done { t, q, passes }
@@ -326,7 +329,7 @@ pub fn plain(mat: &[f64], n: usize, budget: u64) -> Result<Option<Vec<f64>>, ()>
     if n == 2 { return Ok(eig2(mat[0], mat[1], mat[2], mat[3]).map(|(a, b)| vec![a, b])); }
     match schur(mat, n, f64::EPSILON, budget, false) {
         Run::Done { t, .. } => Ok(real_eigenvalues(&t, n)),
-        Run::Budget => Err(()),
+        Run::Budget { .. } => Err(()),
     }
 }
 

@@ -90,7 +90,7 @@ pub fn decompose(
         Err(refusal) => return refusal,
     };
     let answer = match model::schur(&entries, n, tolerance, budget, wanted) {
-        Run::Budget => refused(7, None, n),
+        Run::Budget { .. } => refused(7, None, n),
         Run::Done {
             t: found,
             q: turned,

@@ -492,7 +492,7 @@ fn odd_outcomes_come_up() {
                 seen[2] += bulge as usize;
                 seen[3] += (n > 2 && passes == 0) as usize;
             }
-            Run::Budget => seen[4] += (case.budget > 100) as usize,
+            Run::Budget { .. } => seen[4] += (case.budget > 100) as usize,
         }
     }
     assert!(seen.iter().all(|&count| count > 50), "{seen:?}");
