@@ -1,7 +1,7 @@
 -- Where the entries of a square matrix lie: column by column, so row i of column j of a matrix of order n stands at j *
 -- n + i. A product of two variables is an unknown to `omega`. `placed` and `column` hand it the facts that an index, or
--- the bounds of a column's part, ask for; `place_one`, `apart` and `places` say that two places differ where the row or
--- the column does.
+-- the bounds of a column's part, ask for; `place_one`, `apart` and `places`, in proofs, say that two places differ where
+-- the row or the column does.
 use Rattle.std.specs.Prelude.{◌≡◌, ℕ, suc, ◌+◌, ◌*◌, ◌<◌, ◌≤◌}
 use Rattle.std.proofs.Common.{ap, add-one, mul-le-mul_right, mul-le-mul, suc-mul, arith}
 
