@@ -9,10 +9,19 @@ use std::fs::File;
 use std::io::Write;
 use std::{env, io};
 
+// Tells what has failed, with the system's words for it, and without the number that std puts behind them.
+fn tell(rt: &HostRuntime, what: &str, e: io::Error) -> io::Result<()> {
+    let mut words = format!(in rt.alloc(); "{e}")?;
+    if let Some(end) = words.find(" (os error ") {
+        words.truncate(end);
+    }
+    eprintln!(rt; "{what}: {words}")
+}
+
 fn say(rt: &HostRuntime, text: &[u8]) -> io::Result<()> {
     match rt.stdout().write_all(text) {
         Ok(()) => Ok(()),
-        Err(e) => eprintln!(rt; "looproots_runs: standard output was not written: {e}"),
+        Err(e) => tell(rt, "looproots_runs: standard output was not written", e),
     }
 }
 
@@ -22,7 +31,7 @@ fn answer(rt: &HostRuntime, file: &mut File) -> io::Result<()> {
     let k = match reading::fill(file, &mut input) {
         Filled::Bytes(k) => k,
         Filled::Failed(e) => {
-            return eprintln!(rt; "looproots_runs: a file was not read: {e}");
+            return tell(rt, "looproots_runs: a file was not read", e);
         }
     };
     let mut text = [0; 65536];
@@ -35,7 +44,7 @@ fn file(rt: &HostRuntime, name: &str) -> io::Result<()> {
     say(rt, b":\n")?;
     match File::open(rt, name) {
         Ok(mut file) => answer(rt, &mut file),
-        Err(e) => eprintln!(rt; "{name}: {e}"),
+        Err(e) => tell(rt, name, e),
     }
 }
 
