@@ -3,9 +3,10 @@ use mathlib.Core.Path.{◌≡◌, refl, sym, ap, ◌∙◌}
 use mathlib.Core.List.{List}
 use Prim.Native.Nat.{ℕ, ◌+◌, ◌<◌, ◌≤◌}
 use native.Mathlib.Omega.{arith}
-use lib.ListN.{length, set, length-set}
+use lib.ListN.{length, set, length-set, replicate}
 use lib.Seq.{get_or-set_same, get_or-set_other, ext_get_or}
 use lib.Ieee.{Float, nan}
+use Rattle.std.proofs.lemmas.List.{length-replicate, get_or-replicate}
 use Rattle.loops.specs.Rounded.{◌!◌}
 use Rattle.loops.specs.Table.{table-length}
 use Rattle.loops.specs.Times.{times_none, times_more, times_done, times-length, times_frame, times_at}
@@ -74,6 +75,11 @@ filled-length x t = each_to-length _ _ t
 pub filled_at : (x : Float) (t : List Float) (i : ℕ) → i < length t → filled x t ! i ≡ x
 unfolding filled
 filled_at x t i h = each_to-at (length t) _ t i h (omega arith)
+
+pub filled_is : (x : Float) (t : List Float) → filled x t ≡ replicate (length t) x
+filled_is x t =
+    ext_get_or nan (filled x t) (replicate (length t) x) (filled-length x t ∙ sym (length-replicate (length t) x))
+    (λ i l. let h : i < length t = omega (arith, filled-length x t) in filled_at x t i h ∙ sym (get_or-replicate (length t) i x nan h))
 
 -- it does not matter what is filled over
 pub filled_same : (x : Float) (s t : List Float) → length s ≡ length t → filled x s ≡ filled x t

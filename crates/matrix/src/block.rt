@@ -7,30 +7,17 @@ ghost use Rattle.matrix.specs.Entries.{entry_of, put_of};
 fn span_fits(n: usize, a: usize, len: usize) -> bool
     ensures { result ≡ leb (a + len) n }
 {
-    if len > n {
-        return false;
-    }
-    if a > n - len {
-        return false;
-    }
-    true
+    len <= n && a <= n - len
 }
 
 // Whether `rows` rows from `row` on and `cols` columns from `col` on lie in a matrix of order n, at
-// most 64, that has `len` entries.
+// most 64, that has `len` entries. The columns are tested first, which leaves the fewest instructions
+// before a kernel's loop.
+#[tactic(auto, unfolding(crate::specs::Fits::block_fits))]
 pub fn block_fits(n: usize, len: usize, row: usize, rows: usize, col: usize, cols: usize) -> bool
     ensures { result ≡ block_fits n len (row + rows) (col + cols) }
 {
-    if !span_fits(n, col, cols) {
-        return false;
-    }
-    if n > 64 {
-        return false;
-    }
-    if len != n * n {
-        return false;
-    }
-    span_fits(n, row, rows)
+    span_fits(n, col, cols) && n <= 64 && len == n * n && span_fits(n, row, rows)
 }
 
 // Row i of column j: a NaN where there is no such place.
@@ -43,7 +30,7 @@ pub fn entry(t: &[f64], n: usize, i: usize, j: usize) -> f64
     t[j * n + i]
 }
 
-// Puts x there: nothing is done where there is no such place.
+// Puts x there: a no-op where there is no such place.
 pub fn put(t: &mut [f64], n: usize, i: usize, j: usize, x: f64)
     ensures { t.new ≡ put_of n i j x t.old }
 {

@@ -5,19 +5,14 @@ ghost use Rattle.matrix.specs.Vectors.{filled, copied};
 pub fn fill(t: &mut [f64], x: f64)
     ensures { t.new ≡ filled x t.old }
 {
-    for i in 0..t.len() {
-        t[i] = x;
-    }
+    t.fill(x);
 }
 
-// To the front of t: nothing is done where c is the longer one.
+// To the front of t: a no-op where c is the longer one.
 pub fn copy_from(t: &mut [f64], c: &[f64])
     ensures { t.new ≡ copied c.now t.old }
 {
-    if c.len() > t.len() {
-        return;
-    }
-    for i in 0..c.len() {
-        t[i] = c[i];
+    if c.len() <= t.len() {
+        t[..c.len()].copy_from_slice(c);
     }
 }

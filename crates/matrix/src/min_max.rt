@@ -6,22 +6,19 @@ ghost use Rattle.matrix.specs.Vectors.{largest, larger};
 fn simd_max(held: f64, new: f64) -> f64
     ensures { result ≡ larger held new }
 {
-    if held >= new {
-        return held;
-    }
-    new
+    if held >= new { held } else { new }
 }
 
 // 0 for an empty slice.
 pub fn camax(t: &[f64]) -> f64
     ensures { result ≡ largest t.now }
 {
-    if t.len() == 0 {
+    let Some((first, rest)) = t.split_first() else {
         return 0.0;
-    }
-    let mut max = scalar::modulus(t[0]);
-    for i in 1..t.len() {
-        max = simd_max(max, scalar::modulus(t[i]));
+    };
+    let mut max = scalar::modulus(*first);
+    for v in rest {
+        max = simd_max(max, scalar::modulus(*v));
     }
     max
 }

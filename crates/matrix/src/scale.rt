@@ -5,8 +5,8 @@ ghost use Rattle.matrix.specs.Vectors.{scaled, unscaled};
 pub fn scale_mut(t: &mut [f64], x: f64)
     ensures { t.new ≡ scaled x t.old }
 {
-    for i in 0..t.len() {
-        t[i] = t[i] * x;
+    for v in t.iter_mut() {
+        *v *= x;
     }
 }
 
@@ -14,7 +14,7 @@ pub fn scale_mut(t: &mut [f64], x: f64)
 pub fn unscale_mut(t: &mut [f64], x: f64)
     ensures { t.new ≡ unscaled x t.old }
 {
-    for i in 0..t.len() {
-        t[i] = t[i] / x;
+    for v in t.iter_mut() {
+        *v /= x;
     }
 }

@@ -4,14 +4,12 @@ use Rattle.matrix.specs.Vectors.{scaled}
 use Rattle.matrix.proofs.Each.{rewriting_none, rewriting_more, rewriting_done}
 use Rattle.matrix.proofs.scale.scale_mut.Goals as goal
 
-pub loop-i-init : goal.loop-i-init
-unfolding scaled
-loop-i-init c = rewriting_none _ _ _ (omega arith)
+pub loop-v-init : goal.loop-v-init
+loop-v-init c = rewriting_none _ _ _ (omega arith)
 
-pub loop-i-preserved : goal.loop-i-preserved
-unfolding scaled
-loop-i-preserved c = rewriting_more c.loop-i.invariant (omega arith)
+pub loop-v-preserved : goal.loop-v-preserved
+loop-v-preserved c = rewriting_more c.loop-v.invariant (omega arith)
 
 pub returns : goal.returns
 unfolding scaled
-returns c = rewriting_done c.loop-i.invariant (omega arith)
+returns c = rewriting_done c.loop-v.invariant (omega arith)
