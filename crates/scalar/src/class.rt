@@ -9,9 +9,9 @@ pub fn is_zero(x: f64) -> bool
     x == 0.0
 }
 
-// Neither NaN nor an infinity: only then is x less itself 0.
+// Neither NaN nor an infinity.
 pub fn is_finite(x: f64) -> bool
     ensures { result ≡ is_finite x }
 {
-    x - x == 0.0
+    x.is_finite()
 }

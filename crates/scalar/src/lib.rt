@@ -5,7 +5,6 @@
 mod bits;
 mod class;
 mod guess;
-mod halves;
 mod root;
 mod sign;
 mod table;

@@ -12,7 +12,6 @@ ghost use Rattle.scalar.specs.Inner.{PositiveBelow, Scaled};
 
 use crate::bits::{bits_of, not_a_number, of_bits};
 use crate::guess::guess;
-use crate::halves::{Two, minus, plus, square};
 
 // 2^52: the leading digit of a normal number, and one step of the exponent's field.
 const LEADING: u64 = 0x10_0000_0000_0000;
@@ -48,14 +47,14 @@ fn lifted(w: u64) -> Place
     }
     if top < 0x8000_0000_0000_0000 {
         return Place {
-            top: top,
-            h: h,
+            top,
+            h,
             like: top / 1024 + HALF,
         };
     }
     Place {
-        top: top,
-        h: h,
+        top,
+        h,
         like: top / 2048 + ONE,
     }
 }
@@ -78,25 +77,15 @@ fn scaled(w: u64) -> Place
     }
 }
 
-// Whether r is seen to be the whole number nearest to the root of X: where 0 < X + r - r * r <= 2 * r. Below 0
-// that runs round, and its upper word is not 0.
+// Whether r is the whole number nearest to the root of X.
 fn nearest(top: u64, r: u64) -> bool
     requires { r < 2 ^ 53 }
     ensures { result ≡ true → Near (top * 2 ^ 42) r }
 {
-    let x = Two {
-        hi: top / 0x40_0000,
-        lo: top % 0x40_0000 * 0x400_0000_0000,
-    };
-    let left = minus(plus(x, r), square(r));
-    if left.hi == 0 {
-        if 0 < left.lo {
-            if left.lo <= r * 2 {
-                return true;
-            }
-        }
-    }
-    false
+    let x = u128::from(top) * 0x400_0000_0000;
+    let r = u128::from(r);
+    let square = r * r;
+    square < x + r && x <= square + r
 }
 
 // The whole number nearest to the root of X, digit by digit.
@@ -105,25 +94,19 @@ fn digits(top: u64) -> u64
     ensures { Near (top * 2 ^ 42) result }
 {
     let mut left = top;
-    let mut rem = 0u64;
-    let mut root = 0u64;
-    let mut k = 0u64;
-    while k < 53 {
-        let next = rem * 4 + left / 0x4000_0000_0000_0000;
+    let mut rem = 0;
+    let mut root = 0;
+    'digits: for _ in 0..53u32 {
+        rem = rem * 4 + left / 0x4000_0000_0000_0000;
         left = left % 0x4000_0000_0000_0000 * 4;
         let trial = root * 4 + 1;
-        root = root * 2;
-        rem = next;
-        if trial <= next {
-            rem = next - trial;
-            root = root + 1;
+        root *= 2;
+        if trial <= rem {
+            rem -= trial;
+            root += 1;
         }
-        k = k + 1;
     }
-    if root < rem {
-        root = root + 1;
-    }
-    root
+    if root < rem { root + 1 } else { root }
 }
 
 // The same where r was tried and is not it: a neighbour of r, and else by digits.
@@ -132,14 +115,12 @@ fn beside(top: u64, r: u64) -> u64
     ensures { Near (top * 2 ^ 42) result }
 {
     if nearest(top, r - 1) {
-        return r - 1;
+        r - 1
+    } else if r < 0x1f_ffff_ffff_ffff && nearest(top, r + 1) {
+        r + 1
+    } else {
+        digits(top)
     }
-    if r < 0x1f_ffff_ffff_ffff {
-        if nearest(top, r + 1) {
-            return r + 1;
-        }
-    }
-    digits(top)
 }
 
 // The root of the number of the positive finite pattern w. Near 1 it follows from the pattern. Else the
@@ -148,26 +129,19 @@ fn positive(w: u64) -> f64
     requires { PositiveBelow 0x7ff0_0000_0000_0000 w }
     ensures { result ≡ root_of (from_bits binary64 w) }
 {
-    if ONE - 0x400_0000 <= w {
-        if w <= ONE + 0x400_0000 {
-            return f64::from_bits((w + ONE) / 2);
-        }
+    if ONE - 0x400_0000 <= w && w <= ONE + 0x400_0000 {
+        return f64::from_bits((w + ONE) / 2);
     }
-    let p = scaled(w);
-    let top = p.top;
-    let b = (p.h + 485) * LEADING;
-    let x = guess(p.like, b);
-    if x < 1.0e200 {
-        let t = f64::to_bits(x);
-        if b < t {
-            let r = t - b;
-            if r < 0x20_0000_0000_0000 {
-                if nearest(top, r) {
-                    return x;
-                }
-                return f64::from_bits(b + beside(top, r));
-            }
+    let Place { top, h, like } = scaled(w);
+    let b = (h + 485) * LEADING;
+    let x = guess(like, b);
+    if x < 1.0e200
+        && let Some(r @ 1..0x20_0000_0000_0000) = f64::to_bits(x).checked_sub(b)
+    {
+        if nearest(top, r) {
+            return x;
         }
+        return f64::from_bits(b + beside(top, r));
     }
     f64::from_bits(b + digits(top))
 }
@@ -176,23 +150,17 @@ fn positive(w: u64) -> f64
 pub fn sqrt(x: f64) -> f64
     ensures { result ≡ root_of x }
 {
-    if x != x {
+    if x.is_nan() {
         return not_a_number();
     }
     let w = f64::to_bits(x);
-    if w == 0 {
-        return x;
+    if 0 < w && w < INFINITY {
+        positive(w)
+    } else if w == 0 || w == INFINITY || w == MINUS_ZERO {
+        x
+    } else {
+        not_a_number()
     }
-    if w < INFINITY {
-        return positive(w);
-    }
-    if w == INFINITY {
-        return x;
-    }
-    if w == MINUS_ZERO {
-        return x;
-    }
-    not_a_number()
 }
 
 // The same from pattern to pattern.

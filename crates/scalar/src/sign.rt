@@ -13,7 +13,7 @@ pub struct Exp {
 pub fn modulus(x: f64) -> f64
     ensures { result ≡ modulus_of x }
 {
-    if x != x {
+    if x.is_nan() {
         return x;
     }
     f64::from_bits(f64::to_bits(x) % 0x8000_0000_0000_0000)
@@ -23,13 +23,7 @@ pub fn modulus(x: f64) -> f64
 pub fn signum(x: f64) -> f64
     ensures { result ≡ signum_of x }
 {
-    if x != x {
-        return x;
-    }
-    if f64::to_bits(x) < 0x8000_0000_0000_0000 {
-        return 1.0;
-    }
-    -1.0
+    x.signum()
 }
 
 // By comparison with 0, and so with the sign 1 at -0, whose magnitude is -0 itself.

@@ -2,7 +2,7 @@
 use Rattle.std.proofs.Common.{◌≡◌, ℕ, zero, suc, ◌+◌, ◌*◌, ◌/◌, ◌%◌, ◌^◌, ◌<◌, ◌≤◌, Bool, true, false, cond, not, T}
 use Rattle.std.proofs.Common.{eqb, leb, ◌≢◌, sym, refl, ap, ◌∙◌, mul-pos, arith, leb→le, pow_pos, le-leb}
 use lib.Dec.{nleb→lt}
-use lib.Ieee.{Float, nan, inf, odd, binary64, of_bits, of_fields, to_bits, fits, ne, nan_bits}
+use lib.Ieee.{Float, nan, inf, odd, binary64, of_bits, of_fields, to_bits, fits, is_nan, nan_bits}
 use lib.Ieee.Exact.{odd_sign}
 use Rattle.scalar.specs.Root.{root_of, root_bits}
 use Rattle.scalar.proofs.Patterns.{only_nan, read_nan, nan_pattern, to_bits-nan, back}
@@ -19,7 +19,7 @@ pub nan_bits_root : (w : ℕ) → T (nan_bits binary64 w) → root_bits w ≡ 0x
 unfolding root_bits
 nan_bits_root w t = ap (λ x. to_bits binary64 (root_of x)) (read_nan w t) ∙ ap (to_bits binary64) root_nan ∙ to_bits-nan
 
-pub nan_root : (x : Float) → ne x x ≡ true → root_of x ≡ nan
+pub nan_root : (x : Float) → is_nan x ≡ true → root_of x ≡ nan
 nan_root x e = ap root_of (only_nan x e) ∙ root_nan
 
 -- ---- the patterns that are their own roots

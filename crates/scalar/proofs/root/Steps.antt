@@ -1,5 +1,5 @@
--- What the loops and tests of the root's functions come to, in plain numbers: digit by digit, a subnormal number lifted, a normal one placed,
--- a candidate taken. Assumes nothing.
+-- What the loops and tests of the root's functions come to, in plain numbers: digit by digit, a subnormal number lifted, a normal one placed.
+-- Assumes nothing.
 use Rattle.std.proofs.Common.{◌≡◌, ℕ, zero, suc, ◌+◌, ◌-◌, ◌*◌, ◌/◌, ◌%◌, ◌^◌, ◌<◌, ◌≤◌, ◌≢◌, sym, refl, ap, ◌∙◌}
 use Rattle.std.proofs.Common.{subst, lt_of_lt_of_le, mul-le-mul, arith, pow_mono, pow-add}
 use Rattle.scalar.specs.Rooted.{Near}
@@ -123,7 +123,3 @@ room_both q k h =
     let t : k % 2 * 1024 + 1024 ≤ 2048 = omega arith in
     let p : q * (k % 2 * 1024 + 1024) ≤ (2 ^ 53 - 1) * 2048 = mul-le-mul a t in
     omega arith
-
--- ---- where a candidate is taken: X + r = r * r + left
-pub take_it : (big_x r left : ℕ) → big_x + r ≡ r * r + left → 0 < left → left ≤ r * 2 → Near big_x r
-take_it big_x r left e p h = record { below = omega arith; above = omega arith }

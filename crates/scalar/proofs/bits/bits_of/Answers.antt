@@ -3,16 +3,13 @@
 use Rattle.std.proofs.Common.{sym, refl, ap, ◌∙◌}
 use lib.Ieee.{to_bits, binary64}
 use Rattle.loops.specs.Tests.{truth}
-use Rattle.scalar.proofs.Patterns.{only_nan, no_nan, to_bits-nan, both_ways}
+use Rattle.scalar.proofs.Patterns.{only_nan, to_bits-nan, both_ways}
 use Rattle.scalar.proofs.bits.bits_of.Goals as goal
 
-pub returns-then-x : goal.returns-then-x
-returns-then-x c =
-    let both = both_ways _ (truth c.well_formed.0.1) (sym (ap (to_bits binary64) (only_nan _ c.if-x.true) ∙ to_bits-nan)) in
+pub returns-then-is_nan : goal.returns-then-is_nan
+returns-then-is_nan c =
+    let both = both_ways c.args.x (truth c.well_formed.0.1) (sym (ap (to_bits binary64) (only_nan _ (sym c.if-is_nan.ensures.value)) ∙ to_bits-nan)) in
     record { value = both.0; result_value = both.1 }
-
-pub float_to_bits-result : goal.float_to_bits-result
-float_to_bits-result c = no_nan _ c.if-x.false
 
 pub returns : goal.returns
 returns c =

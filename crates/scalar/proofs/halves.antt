@@ -1,2 +1,0 @@
--- Laws of numbers in two words.
-pub mod Laws
