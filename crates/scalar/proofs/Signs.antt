@@ -57,3 +57,6 @@ no_nan (fin s m e) d = refl
 
 pub modulus_pattern : (x : Float) → T (fits binary64 x) → is_nan x ≡ false → T (not (nan_bits binary64 (to_bits binary64 x % 2 ^ 63)))
 modulus_pattern x t d = falsity (nan_bits_is binary64 (to_bits binary64 x % 2 ^ 63) ∙ ap is_nan (modulus_back x t d) ∙ no_nan x d)
+
+-- what the check of `modulus` takes
+pub ruleset by_pattern = (own_modulus, modulus_back, modulus_pattern)

@@ -4,6 +4,7 @@ ghost use Rattle.std.specs.Prelude.{◌≡◌, from_bits, to_bits};
 ghost use Rattle.std.specs.Float.{nan, binary64};
 
 // NaN, of whichever bits the machine makes.
+#[tactic(auto, using(crate::proofs::Patterns::quiet))]
 pub fn not_a_number() -> f64
     ensures { result ≡ nan }
 {
@@ -11,6 +12,7 @@ pub fn not_a_number() -> f64
 }
 
 // The float of a pattern. Above that of infinity, the sign aside, the pattern is a NaN's.
+#[tactic(auto, using(crate::proofs::Patterns::nan_pattern, crate::proofs::Patterns::no_pattern))]
 pub fn of_bits(w: u64) -> f64
     ensures { result ≡ from_bits binary64 w }
 {
@@ -21,6 +23,7 @@ pub fn of_bits(w: u64) -> f64
 }
 
 // The pattern of a float. It is read back as that float, and NaN as NaN.
+#[tactic(auto, using(crate::proofs::Patterns::both_ways))]
 pub fn bits_of(x: f64) -> u64
     ensures value { result ≡ to_bits binary64 x }
     ensures result_value { from_bits binary64 result ≡ x }

@@ -2,17 +2,19 @@
 // root (`root.rt`), and a poor guess costs time alone.
 ghost use Rattle.std.specs.Prelude.{◌<◌};
 
-use crate::table::{bend, middle};
+use crate::table::{BENDS, MIDDLES};
 
 // Near the root of z times k, the power of two with the pattern b + 2^52, where z is the number of the
 // pattern v taken to [1, 4). u is ready before the tables are, and m is k, or k times the root of 2. The
 // test always holds: it parts the sum in two, since the compiler else takes pairs of its operations into
 // vectors, and what it then moves about costs more than that saves.
+#[tactic(auto, using(crate::proofs::Patterns::no_pattern))]
 pub(crate) fn guess(v: u64, b: u64) -> f64
     requires { (v < 0x7ff0_0000_0000_0000) × (b < 0x7fd0_0000_0000_0000) }
 {
-    let p = middle(v);
-    let c = bend(v);
+    let piece = (v / 0x4000_0000_0000 % 128) as usize;
+    let p = MIDDLES[piece];
+    let c = BENDS[piece % 64];
     let u = f64::from_bits(v % 0x4000_0000_0000 + 0x3ff0_0000_0000_0000) - 1.0078125;
     let k = f64::from_bits(b + 0x10_0000_0000_0000);
     let m = f64::from_bits(

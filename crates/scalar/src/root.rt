@@ -17,13 +17,13 @@ use crate::guess::guess;
 const LEADING: u64 = 0x10_0000_0000_0000;
 
 // The patterns of 0.5, 1.0, +infinity and -0.0.
-const HALF: u64 = 0x3fe0_0000_0000_0000;
+const HALF: u64 = f64::to_bits(0.5);
 
-const ONE: u64 = 0x3ff0_0000_0000_0000;
+const ONE: u64 = f64::to_bits(1.0);
 
-const INFINITY: u64 = 0x7ff0_0000_0000_0000;
+const INFINITY: u64 = f64::to_bits(f64::INFINITY);
 
-const MINUS_ZERO: u64 = 0x8000_0000_0000_0000;
+const MINUS_ZERO: u64 = f64::to_bits(-0.0);
 
 // A number as top * 4^h / 2^62 smallest values, and the pattern of a normal number with the same digits and
 // an exponent of the same parity, which the guess goes by.
@@ -35,6 +35,7 @@ struct Place {
 }
 
 // A number below the smallest normal one.
+#[tactic(auto, using(crate::proofs::root::Steps::lifting))]
 fn lifted(w: u64) -> Place
     requires { PositiveBelow (2 ^ 52) w }
     ensures { Scaled w result.top result.h result.like }
@@ -60,6 +61,7 @@ fn lifted(w: u64) -> Place
 }
 
 // The number of the positive finite pattern w.
+#[tactic(auto, using(crate::proofs::root::Steps::placing))]
 fn scaled(w: u64) -> Place
     requires { PositiveBelow 0x7ff0_0000_0000_0000 w }
     ensures { Scaled w result.top result.h result.like }
@@ -89,6 +91,7 @@ fn nearest(top: u64, r: u64) -> bool
 }
 
 // The whole number nearest to the root of X, digit by digit.
+#[tactic(auto, using(crate::proofs::root::Steps::by_digits))]
 fn digits(top: u64) -> u64
     requires { 0 < top }
     ensures { Near (top * 2 ^ 42) result }
@@ -164,6 +167,7 @@ pub fn sqrt(x: f64) -> f64
 }
 
 // The same from pattern to pattern.
+#[tactic(auto, using(crate::proofs::root::Special::in_bits))]
 pub fn sqrt_bits(w: u64) -> u64
     ensures { (result ≡ root_bits w) × (T (nan_bits binary64 w) → result ≡ 0x7ff8_0000_0000_0000) }
 {

@@ -19,6 +19,13 @@ pub nan_bits_root : (w : ℕ) → T (nan_bits binary64 w) → root_bits w ≡ 0x
 unfolding root_bits
 nan_bits_root w t = ap (λ x. to_bits binary64 (root_of x)) (read_nan w t) ∙ ap (to_bits binary64) root_nan ∙ to_bits-nan
 
+pub bits_root : (w : ℕ) → to_bits binary64 (root_of (of_bits binary64 w)) ≡ root_bits w
+unfolding root_bits
+bits_root w = refl
+
+-- what the check of `sqrt_bits` takes
+pub ruleset in_bits = (bits_root, nan_bits_root)
+
 pub nan_root : (x : Float) → is_nan x ≡ true → root_of x ≡ nan
 nan_root x e = ap root_of (only_nan x e) ∙ root_nan
 

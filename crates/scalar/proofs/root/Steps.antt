@@ -123,3 +123,11 @@ room_both q k h =
     let t : k % 2 * 1024 + 1024 ≤ 2048 = omega arith in
     let p : q * (k % 2 * 1024 + 1024) ≤ (2 ^ 53 - 1) * 2048 = mul-le-mul a t in
     omega arith
+
+-- ---- what the checks of `digits`, `lifted` and `scaled` take
+
+pub ruleset by_digits = (digits_none, digits_all, rest_up, rest_down)
+
+pub ruleset lifting = (lift_none, lift_left, lift_all)
+
+pub ruleset placing = (placed_both, room_both)
