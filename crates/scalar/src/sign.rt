@@ -21,11 +21,19 @@ pub fn modulus(x: f64) -> f64
     f64::from_bits(f64::to_bits(x) % 0x8000_0000_0000_0000)
 }
 
-// 1 with the sign bit of x; NaN for NaN.
+// 1 with the sign bit of x; NaN for NaN. `f64::signum` comes out as branches, where this is a mask and a blend.
+#[tactic(auto, using(crate::proofs::Signs::by_sign))]
 pub fn signum(x: f64) -> f64
     ensures { result ≡ signum_of x }
 {
-    x.signum()
+    if x.is_nan() {
+        return x;
+    }
+    if f64::to_bits(x) < 0x8000_0000_0000_0000 {
+        1.0
+    } else {
+        -1.0
+    }
 }
 
 // By comparison with 0, and so with the sign 1 at -0, whose magnitude is -0 itself.
