@@ -21,6 +21,7 @@ pub struct Turn {
 }
 
 // Where row i of column j of a matrix of order n lies.
+#[tactic(auto, using(loops::specs::Place::placed))]
 fn at(n: usize, i: usize, j: usize) -> usize
     requires { (n ≤ 64) × (i < n) × (j < n) }
     ensures { (result ≡ j * n + i) × (j * n + i < n * n) × (n * n ≤ 4096) }
@@ -37,19 +38,18 @@ impl Rotation {
     }
 
     // From a cosine and a sine that are not normalized: the identity where their length is not above 0.
+    #[tactic(auto, unfolding(crate::specs::Rotation::new_of))]
     pub fn new(c: f64, s: f64) -> Turn
         ensures { result ≡ new_of c s }
     {
-        let Some(turn) = Rotation::try_new(c, s, 0.0) else {
-            return Turn {
-                rotation: Rotation::identity(),
-                norm: 0.0,
-            };
-        };
-        turn
+        Rotation::try_new(c, s, 0.0).unwrap_or(Turn {
+            rotation: Rotation::identity(),
+            norm: 0.0,
+        })
     }
 
     // The same: none where the length is not above eps.
+    #[tactic(auto, unfolding(crate::specs::Rotation::try_new))]
     pub fn try_new(c: f64, s: f64, eps: f64) -> Option<Turn>
         ensures { result ≡ try_new c s eps }
     {
@@ -70,6 +70,7 @@ impl Rotation {
     }
 
     // The rotation that takes (x, y) to (norm, 0): none is needed where y is 0.
+    #[tactic(auto, unfolding(crate::specs::Rotation::cancel_y))]
     pub fn cancel_y(x: f64, y: f64) -> Option<Turn>
         ensures { result ≡ cancel_y x y }
     {
