@@ -4,8 +4,7 @@
 ghost use Rattle.std.specs.Prelude.{◌≡◌};
 ghost use Rattle.answer.specs.Answer.{packed, refusal_number, checked_number, decomposed_number};
 
-use decomposition::Decomposed;
-use refusal::{Checked, Refusal, Told};
+use refusal::{Refusal, Told};
 
 // The lowest 16 bits of each part, which is all that a part has.
 fn pack(x: Told) -> u64
@@ -22,20 +21,20 @@ pub fn refusal_number(r: Refusal) -> u64
     pack(refusal::tell(r))
 }
 
-pub fn checked_number(c: Checked) -> u64
+pub fn checked_number(c: Result<(), Refusal>) -> u64
     ensures { result ≡ checked_number c }
 {
     match c {
-        Checked::Passed => 0,
-        Checked::Refused(r) => refusal_number(r),
+        Ok(()) => 0,
+        Err(r) => refusal_number(r),
     }
 }
 
-pub fn decomposed_number(d: Decomposed) -> u64
+pub fn decomposed_number(d: Result<u64, Refusal>) -> u64
     ensures { result ≡ decomposed_number d }
 {
     match d {
-        Decomposed::Accepted(passes) => passes,
-        Decomposed::Declined(r) => refusal_number(r),
+        Ok(passes) => passes,
+        Err(r) => refusal_number(r),
     }
 }

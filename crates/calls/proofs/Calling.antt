@@ -1,4 +1,6 @@
 -- What each entry comes to, stated of the pieces that the code has in hand. Assumes nothing.
+use Rattle.refusal.specs.Refusal.{Checked}
+use Rattle.decomposition.specs.Decomposition.{Decomposed}
 use Prim.Native.Nat.{◌<◌}
 use native.Mathlib.Omega.{arith}
 use mathlib.Core.Bool.{Bool}
@@ -10,8 +12,6 @@ use Rattle.scalar.specs.Root.{root_of}
 use Rattle.loops.specs.Rounded.{◌!◌}
 use Rattle.pass.specs.Setting.{setting}
 use Rattle.pass.specs.Pair.{pair}
-use Rattle.refusal.specs.declared.refusal.Checked.{Checked}
-use Rattle.decomposition.specs.declared.Decomposed.{Decomposed}
 use Rattle.decomposition.specs.Decomposition.{outcome, decomposition_of}
 use Rattle.eigenvalues.specs.Readers.{read, real_read, complexly, complex_read}
 use Rattle.plain.specs.Plain.{plain, plain_of}

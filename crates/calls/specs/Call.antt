@@ -1,14 +1,13 @@
 -- A call by its entry: what is answered, and what the three lent slices hold afterwards. Each entry is the library's
 -- definition of it; a slice that it does not have stays as it was.
-use Rattle.std.specs.Prelude.{Bool, true, false, List, [], ◌∷◌, set, Float}
+use Rattle.refusal.specs.Refusal.{Checked}
+use Rattle.decomposition.specs.Decomposition.{Decomposed}
+use Rattle.std.specs.Prelude.{Bool, true, false, List, [], ◌∷◌, set, Float, Err, Ok}
 use Rattle.scalar.specs.Root.{root_of}
 use Rattle.pass.specs.Setting.{setting}
 use Rattle.pass.specs.Pair.{pair}
-use Rattle.refusal.specs.declared.refusal.Checked.{Checked}
 use Rattle.refusal.specs.declared.refusal.Checked.TheVariants as checks
 use Rattle.refusal.specs.Refusal.{told_of}
-use Rattle.decomposition.specs.declared.Decomposed.{Decomposed}
-use Rattle.decomposition.specs.declared.Decomposed.TheVariants.{Accepted, Declined}
 use Rattle.decomposition.specs.Decomposition.{decomposition_of}
 use Rattle.eigenvalues.specs.Readers.{real_read, complex_read}
 use Rattle.plain.specs.Plain.{plain_of}
@@ -28,12 +27,12 @@ abbrev pub came : Answer → (x y z : List Float) → Came
 came answer x y z = record { answer = answer; x = x; y = y; z = z }
 
 unfoldable pub decomposed_answer : Decomposed → Answer
-decomposed_answer (Accepted passes) = Passes passes
-decomposed_answer (Declined r) = Refused (told_of r)
+decomposed_answer (Ok passes) = Passes passes
+decomposed_answer (Err r) = Err (told_of r)
 
 unfoldable pub checked_answer : Checked → Answer
 checked_answer checks.Passed = Values
-checked_answer (checks.Refused r) = Refused (told_of r)
+checked_answer (checks.Refused r) = Err (told_of r)
 
 unfoldable pub with_or_without_q : (wanted : Bool) → Call → (m x y z : List Float) → Came
 with_or_without_q wanted c m x y z =

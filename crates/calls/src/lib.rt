@@ -6,9 +6,8 @@
 ghost use Rattle.std.specs.Prelude.{◌≡◌};
 ghost use Rattle.calls.specs.Call.{decomposed_answer, checked_answer, came, with_or_without_q, rooted, call_of};
 
-use decomposition::Decomposed;
 use pass::Setting;
-use refusal::{Checked, Told};
+use refusal::{Refusal, Told};
 
 // The decomposition with Q and without, the readers of a T, the plain entry, the square root.
 #[derive(Clone, Copy)]
@@ -38,21 +37,21 @@ pub struct Call {
     pub budget: u64,
 }
 
-fn decomposed(d: Decomposed) -> Answer
+fn decomposed(d: Result<u64, Refusal>) -> Answer
     ensures { result ≡ decomposed_answer d }
 {
     match d {
-        Decomposed::Accepted(passes) => Answer::Passes(passes),
-        Decomposed::Declined(r) => Answer::Refused(refusal::tell(r)),
+        Ok(passes) => Answer::Passes(passes),
+        Err(r) => Answer::Refused(refusal::tell(r)),
     }
 }
 
-fn checked(c: Checked) -> Answer
+fn checked(c: Result<(), Refusal>) -> Answer
     ensures { result ≡ checked_answer c }
 {
     match c {
-        Checked::Passed => Answer::Values,
-        Checked::Refused(r) => Answer::Refused(refusal::tell(r)),
+        Ok(()) => Answer::Values,
+        Err(r) => Answer::Refused(refusal::tell(r)),
     }
 }
 

@@ -1,4 +1,6 @@
 -- Where all checks of the arguments have passed: what each of them tells, and that the run's own test holds then. Assumes nothing.
+use Rattle.std.specs.Prelude.{None}
+use Rattle.refusal.specs.Refusal.{Checked, passed}
 use Prim.Native.Nat.{ℕ, ◌*◌, ◌≤◌}
 use mathlib.Core.Bool.{true}
 use mathlib.Core.Path.{◌≡◌, refl, sym, ◌∙◌}
@@ -10,9 +12,6 @@ use lib.Ieee.{Float}
 use Rattle.loops.specs.Constants.{zero}
 use Rattle.matrix.specs.Vectors.{filled}
 use Rattle.matrix.proofs.Fitting.{both, fitting}
-use Rattle.refusal.specs.declared.refusal.Checked.{Checked}
-use Rattle.refusal.specs.declared.refusal.Checked.TheVariants.{Passed}
-use Rattle.refusal.specs.declared.search.Search.TheVariants.{Nowhere}
 use Rattle.refusal.specs.Refusal.{refuse, ◌next◌}
 use Rattle.refusal.specs.Search.{first_not_finite}
 use Rattle.refusal.proofs.ChecksInTurn.{next_passed, refuse_passed}
@@ -27,12 +26,12 @@ use Rattle.decomposition.specs.Decomposition.{begun, judged, entry_of}
 pub record Right (lengths : Checked) (asked : Setting) (budget : ℕ) (m : List Float) : Type 0 where
   pub some : 1 ≤ asked.order
   pub order : asked.order ≤ 64
-  pub lent : lengths ≡ Passed
+  pub lent : lengths ≡ passed
   pub near : tolerance_fits asked.tolerance ≡ true
   pub bound : budget_fits budget ≡ true
-  pub entries : first_not_finite asked.order m ≡ Nowhere
+  pub entries : first_not_finite asked.order m ≡ None
 
-pub all_right : (lengths : Checked) (asked : Setting) (budget : ℕ) (m : List Float) → argument_checks lengths asked budget m ≡ Passed
+pub all_right : (lengths : Checked) (asked : Setting) (budget : ℕ) (m : List Float) → argument_checks lengths asked budget m ≡ passed
     → Right lengths asked budget m
 unfolding argument_checks
 all_right lengths asked budget m h =
@@ -52,7 +51,7 @@ all_right lengths asked budget m h =
 
 -- and the other way
 pub right_passed : {lengths : Checked} {asked : Setting} {budget : ℕ} {m : List Float} → Right lengths asked budget m
-    → argument_checks lengths asked budget m ≡ Passed
+    → argument_checks lengths asked budget m ≡ passed
 unfolding argument_checks refuse ◌next◌
 right_passed {lengths} {asked} {budget} {m} r =
     rw (order_passes r.some r.order, r.lent, r.near, r.bound) (entries_passes asked.order m r.entries)
@@ -74,7 +73,7 @@ pub record Sizes (n mn tn wn : ℕ) : Type 0 where
   pub square : tn ≡ n * n
   pub room : wn ≡ 2 * n
 
-pub all_lent : (asked : Setting) (mn tn qn wn : ℕ) → all_lengths asked mn tn qn wn ≡ Passed → Sizes asked.order mn tn wn
+pub all_lent : (asked : Setting) (mn tn qn wn : ℕ) → all_lengths asked mn tn qn wn ≡ passed → Sizes asked.order mn tn wn
 unfolding all_lengths
 all_lent asked mn tn qn wn h =
     let a = next_passed _ _ h in
@@ -82,7 +81,7 @@ all_lent asked mn tn qn wn h =
     record { alike = l.m ∙ sym l.t; square = l.t; room = length_passed _ wn _ a.1 }
 
 -- and of Q, where it is wanted
-pub q_lent : (asked : Setting) (mn tn qn wn : ℕ) → all_lengths asked mn tn qn wn ≡ Passed → asked.wanted ≡ true → qn ≡ asked.order * asked.order
+pub q_lent : (asked : Setting) (mn tn qn wn : ℕ) → all_lengths asked mn tn qn wn ≡ passed → asked.wanted ≡ true → qn ≡ asked.order * asked.order
 unfolding all_lengths
 q_lent asked mn tn qn wn h = (matrices_passed _ _ mn tn qn (next_passed _ _ h).0).q
 

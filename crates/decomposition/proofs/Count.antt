@@ -1,6 +1,10 @@
 -- The answer by the definition's count, which is of the matrix alone (document 00, demand 3): an accepted count is the definition's and lies below the budget;
 -- and where the checks before the run pass, 7 is given exactly if the definition's count is the budget or more. Below the budget the answer is the run's own,
 -- whatever the budget. Assumes nothing.
+use Rattle.std.specs.Prelude.{Err, Ok}
+use Rattle.refusal.specs.Refusal.{Checked, passed}
+use Rattle.decomposition.specs.Decomposition.{Decomposed}
+use Rattle.schur.specs.Run.{Ran}
 use Prim.Native.Nat.{ℕ, ◌<◌, ◌≤◌}
 use mathlib.Core.Path.{◌≡◌, refl, sym, ap, ◌∙◌, subst}
 use mathlib.Core.List.{List}
@@ -8,19 +12,14 @@ use native.Mathlib.Omega.{arith}
 use lib.ListN.{length}
 use lib.Ieee.{Float}
 use Rattle.refusal.specs.declared.refusal.Refusal.{Refusal}
-use Rattle.refusal.specs.declared.refusal.Checked.{Checked}
-use Rattle.refusal.specs.declared.refusal.Checked.TheVariants.{Passed, Refused}
 use Rattle.refusal.specs.Refusal.{told_of, without_place}
 use Rattle.refusal.proofs.ChecksInTurn.{refused_not_passed, Only, only_next, only_at}
 use Rattle.refusal.proofs.PassedChecks.{only_asked}
 use Rattle.pass.specs.declared.setting.Setting.{Setting}
 use Rattle.pass.specs.Pair.{Pair, pair}
-use Rattle.schur.specs.declared.run.Ran.{Ran}
 use Rattle.schur.specs.Run.{Left, ran_of, largest_budget, count_of}
 use Rattle.schur.proofs.Counting.{Tells, ended, reached, ran_tells, below_ended, budget_not_felt}
 use Rattle.schur.proofs.RunAnswers.{RunFits}
-use Rattle.decomposition.specs.declared.Decomposed.{Decomposed}
-use Rattle.decomposition.specs.declared.Decomposed.TheVariants.{Accepted, Declined}
 use Rattle.decomposition.specs.Checks.{argument_checks, result_checks}
 use Rattle.decomposition.specs.Decomposition.{verdict, passes_of, judged, entry_of, decomposed_told, BelowBudget}
 use Rattle.decomposition.proofs.CheckedArguments.{Sizes, all_right, some_budget, most_budget, sizes_run}
@@ -39,25 +38,25 @@ result_numbers asked p =
 
 -- accepted with the count, or refused by what is looked at there
 pub data Own (a : Decomposed) (count : ℕ) : Type 0 where
-  accepted : a ≡ Accepted count → Own a count
+  accepted : a ≡ Ok count → Own a count
   refused : 8 ≤ (decomposed_told a).number → (decomposed_told a).number ≤ 9 → Own a count
 
 -- ---- an answer by its number
 
-pub declined_told : {r : Refusal} (a : Decomposed) → a ≡ Declined r → decomposed_told a ≡ told_of r
+pub declined_told : {r : Refusal} (a : Decomposed) → a ≡ Err r → decomposed_told a ≡ told_of r
 unfolding decomposed_told
 declined_told a e = rw e refl
 
 -- a number other than 0 is a refusal's
-pub told_declined : (a : Decomposed) (k : ℕ) → 1 ≤ k → (decomposed_told a).number ≡ k → (r : Refusal) × (a ≡ Declined r) × ((told_of r).number ≡ k)
+pub told_declined : (a : Decomposed) (k : ℕ) → 1 ≤ k → (decomposed_told a).number ≡ k → (r : Refusal) × (a ≡ Err r) × ((told_of r).number ≡ k)
 unfolding decomposed_told
-told_declined (Accepted c) k l e = absurd (omega arith)
-told_declined (Declined r) k l e = (r, refl, e)
+told_declined (Ok c) k l e = absurd (omega arith)
+told_declined (Err r) k l e = (r, refl, e)
 
 -- ---- the answer of any entry whose checks tell the lengths
 
 module _ (lengths : Checked) (asked : Setting) (m : List Float) (p : Pair) (w : List Float)
-    (lent : lengths ≡ Passed → Sizes asked.order (length m) (length p.t) (length w)) where
+    (lent : lengths ≡ passed → Sizes asked.order (length m) (length p.t) (length w)) where
   -- the definition's: of the matrix alone, whatever the budget
   abbrev count : ℕ
   count = count_of asked m
@@ -73,16 +72,16 @@ module _ (lengths : Checked) (asked : Setting) (m : List Float) (p : Pair) (w : 
     answer = (entry_of lengths asked budget m p w).answer
 
     -- a budget that has passed is at least 1
-    budgeted : checks ≡ Passed → 1 ≤ budget
+    budgeted : checks ≡ passed → 1 ≤ budget
     budgeted h = some_budget budget (all_right _ _ _ _ h).bound
 
-    most : checks ≡ Passed → budget ≤ largest_budget
+    most : checks ≡ passed → budget ≤ largest_budget
     most h = most_budget budget (all_right _ _ _ _ h).bound
 
-    pub fitting : checks ≡ Passed → RunFits asked.order (length m) (length w)
+    pub fitting : checks ≡ passed → RunFits asked.order (length m) (length w)
     fitting h = let r = all_right _ _ _ _ h in sizes_run r.some r.order (lent r.lent)
 
-    pub tells : checks ≡ Passed → Tells ran count budget
+    pub tells : checks ≡ passed → Tells ran count budget
     tells h = ran_tells asked budget (pair m p.q) w (fitting h) (most h)
 
     -- what is said of a run that answered so
@@ -90,7 +89,7 @@ module _ (lengths : Checked) (asked : Setting) (m : List Float) (p : Pair) (w : 
     said f = ap (λ a. verdict asked a ran.pair) f
 
     -- accepted: with the definition's count, which lies below the budget
-    pub accepted_count : {c : ℕ} → answer ≡ Accepted c → (c ≡ count) × (c < budget)
+    pub accepted_count : {c : ℕ} → answer ≡ Ok c → (c ≡ count) × (c < budget)
     unfolding verdict passes_of
     accepted_count {c} e =
         let h = accepted_passed lengths asked budget m p w e in
@@ -102,11 +101,11 @@ module _ (lengths : Checked) (asked : Setting) (m : List Float) (p : Pair) (w : 
 
     -- what an entry promises of its count
     pub count_below : (r : Decomposed) → r ≡ answer → BelowBudget r budget
-    count_below (Accepted c) h = (accepted_count (sym h)).1
-    count_below (Declined r) h = tt
+    count_below (Ok c) h = (accepted_count (sym h)).1
+    count_below (Err r) h = tt
 
     -- 7: only if the count is the budget or more, and whenever it is
-    pub seven_reached : checks ≡ Passed → (decomposed_told answer).number ≡ 7 → budget ≤ count
+    pub seven_reached : checks ≡ passed → (decomposed_told answer).number ≡ 7 → budget ≤ count
     unfolding verdict
     seven_reached h e =
         let d = told_declined answer 7 (omega arith) e in
@@ -116,7 +115,7 @@ module _ (lengths : Checked) (asked : Setting) (m : List Float) (p : Pair) (w : 
           | reached _ k _ ↦ k
         ]
 
-    pub reached_seven : checks ≡ Passed → budget ≤ count → decomposed_told answer ≡ without_place 7
+    pub reached_seven : checks ≡ passed → budget ≤ count → decomposed_told answer ≡ without_place 7
     unfolding verdict told_of
     reached_seven h l = elim (tells h) [
       | ended k _ ↦ absurd (omega (arith, k (budgeted h)))
@@ -124,23 +123,23 @@ module _ (lengths : Checked) (asked : Setting) (m : List Float) (p : Pair) (w : 
     ]
 
     -- Below the budget the answer is the run's own: accepted with that count, or 8 or 9.
-    pub below_own : checks ≡ Passed → count < budget → Own answer count
+    pub below_own : checks ≡ passed → count < budget → Own answer count
     unfolding verdict passes_of
     below_own h l =
         let e = below_ended asked budget (pair m p.q) w (fitting h) (most h) l in
         go (result_checks asked ran.pair) (said e) (result_numbers asked _) (ap passes_of e)
       where
         go : (c : Checked) → verdict asked ran.answer ran.pair ≡ c → Results c → passes_of ran.answer ≡ count → Own answer count
-        go Passed k numbers passes = accepted (accepted_run lengths asked budget m p w h k ∙ ap Accepted passes)
-        go (Refused r) k numbers passes =
+        go passed k numbers passes = accepted (accepted_run lengths asked budget m p w h k ∙ ap Ok passes)
+        go (Err r) k numbers passes =
             let e = ap (λ x. x.number) (declined_told answer (refused_run lengths asked budget m p w h k)) in
             refused (omega arith) (omega arith)
 
   -- So every budget above the count gives one outcome.
-  pub below_same : (b d : ℕ) → checks b ≡ Passed → checks d ≡ Passed → count < b → count < d
+  pub below_same : (b d : ℕ) → checks b ≡ passed → checks d ≡ passed → count < b → count < d
       → entry_of lengths asked b m p w ≡ entry_of lengths asked d m p w
   below_same b d h k l l' =
       run_judged lengths asked b m p w h ∙ ap (λ r. judged asked r w) (unfelt b h l ∙ sym (unfelt d k l')) ∙ sym (run_judged lengths asked d m p w k)
     where
-      unfelt : (b : ℕ) → checks b ≡ Passed → count < b → ran b ≡ ran largest_budget
+      unfelt : (b : ℕ) → checks b ≡ passed → count < b → ran b ≡ ran largest_budget
       unfelt b h l = budget_not_felt asked b (pair m p.q) w (fitting b h) (most b h) l

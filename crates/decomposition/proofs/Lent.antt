@@ -1,6 +1,9 @@
 -- What lent memory held is not felt (document 01, demand 2: the steps are functions of the matrix). Two calls on one matrix, with one setting and budget, whose
 -- checks come to the same: they answer the same, and past the checks they leave the same T, the same workspace, and the same Q where it is wanted. Assumes
 -- nothing.
+use Rattle.std.specs.Prelude.{Err, Ok}
+use Rattle.refusal.specs.Refusal.{Checked, passed}
+use Rattle.schur.specs.Run.{Ran}
 use Prim.Native.Nat.{ℕ, ◌*◌}
 use mathlib.Core.Bool.{Bool, true, false}
 use mathlib.Core.Path.{◌≡◌, refl, sym, ap, ap₂, subst, ◌∙◌}
@@ -10,13 +13,10 @@ use lib.Ieee.{Float, nan}
 use Rattle.loops.specs.Constants.{zero}
 use Rattle.matrix.specs.Vectors.{filled}
 use Rattle.matrix.proofs.Each.{filled_same}
-use Rattle.refusal.specs.declared.refusal.Checked.{Checked}
-use Rattle.refusal.specs.declared.refusal.Checked.TheVariants.{Passed, Refused}
 use Rattle.refusal.specs.Checks.{only_if}
 use Rattle.pass.specs.declared.setting.Setting.{Setting}
 use Rattle.pass.specs.Pair.{Pair, pair}
-use Rattle.schur.specs.declared.run.Ran.{Ran}
-use Rattle.schur.specs.declared.run.Ran.TheVariants.{Ended, BudgetReached, Unfit}
+use Rattle.schur.specs.declared.run.Stopped.TheVariants.{BudgetReached, Unfit}
 use Rattle.schur.specs.Run.{Left, left, ran_of}
 use Rattle.schur.proofs.Lent.{Lent, Unfelt, lent_not_felt}
 use Rattle.decomposition.specs.Checks.{all_lengths, argument_checks, result_checks}
@@ -37,19 +37,19 @@ pub record SameOutcome (asked : Setting) (x y : Outcome) : Type 0 where
 module _ (asked : Setting) (unwanted : asked.wanted ≡ false) where
   verdict_same : (a : Ran) (p r : Pair) → p.t ≡ r.t → verdict asked a p ≡ verdict asked a r
   unfolding verdict result_checks only_if
-  verdict_same (Ended c) p r e = rw (unwanted, e) refl
-  verdict_same (BudgetReached v) p r e = refl
-  verdict_same Unfit p r e = refl
+  verdict_same (Ok c) p r e = rw (unwanted, e) refl
+  verdict_same (Err (BudgetReached v)) p r e = refl
+  verdict_same (Err Unfit) p r e = refl
 
   settled_answer : (passes : ℕ) (c : Checked) (p r : Pair) → (settled asked passes c p).answer ≡ (settled asked passes c r).answer
   unfolding settled
-  settled_answer passes Passed p r = refl
-  settled_answer passes (Refused x) p r = refl
+  settled_answer passes passed p r = refl
+  settled_answer passes (Err x) p r = refl
 
   settled_t : (passes : ℕ) (c : Checked) (p r : Pair) → p.t ≡ r.t → (settled asked passes c p).pair.t ≡ (settled asked passes c r).pair.t
   unfolding settled nan_filled
-  settled_t passes Passed p r e = e
-  settled_t passes (Refused x) p r e = ap (filled nan) e
+  settled_t passes passed p r e = e
+  settled_t passes (Err x) p r e = ap (filled nan) e
 
 module _ (asked : Setting) (x y : Left) (w w' : List Float) (unfelt : Unfelt asked x y) (room : length w ≡ length w') where
   abbrev Wanted : Type 0
@@ -91,15 +91,15 @@ module _ (asked : Setting) (x y : Left) (w w' : List Float) (unfelt : Unfelt ask
 
 -- where they pass, the lengths are told
 pub record LengthsTold (lengths : Checked) (asked : Setting) (m : List Float) (p : Pair) (w : List Float) : Type 0 where
-  pub sizes : lengths ≡ Passed → Sizes asked.order (length m) (length p.t) (length w)
-  pub q : lengths ≡ Passed → asked.wanted ≡ true → length p.q ≡ asked.order * asked.order
+  pub sizes : lengths ≡ passed → Sizes asked.order (length m) (length p.t) (length w)
+  pub q : lengths ≡ passed → asked.wanted ≡ true → length p.q ≡ asked.order * asked.order
 
 module _ (lengths : Checked) (asked : Setting) (budget : ℕ) (m : List Float) (p p' : Pair) (w w' : List Float) (lent : LengthsTold lengths asked m p w)
     (lent' : LengthsTold lengths asked m p' w') where
   abbrev checks : Checked
   checks = argument_checks lengths asked budget m
 
-  pub entry_lent : checks ≡ Passed → SameOutcome asked (entry_of lengths asked budget m p w) (entry_of lengths asked budget m p' w')
+  pub entry_lent : checks ≡ passed → SameOutcome asked (entry_of lengths asked budget m p w) (entry_of lengths asked budget m p' w')
   entry_lent h =
       let r = all_right _ _ _ _ h in
       let z = lent.sizes r.lent in
@@ -116,8 +116,8 @@ module _ (lengths : Checked) (asked : Setting) (budget : ℕ) (m : List Float) (
   entry_answer = go checks refl
     where
       go : (c : Checked) → checks ≡ c → (entry_of lengths asked budget m p w).answer ≡ (entry_of lengths asked budget m p' w').answer
-      go Passed h = (entry_lent h).answer
-      go (Refused r) h = ap (λ o. o.answer) (untouched lengths asked budget m p w h) ∙ sym (ap (λ o. o.answer) (untouched lengths asked budget m p' w' h))
+      go passed h = (entry_lent h).answer
+      go (Err r) h = ap (λ o. o.answer) (untouched lengths asked budget m p w h) ∙ sym (ap (λ o. o.answer) (untouched lengths asked budget m p' w' h))
 
 -- ---- the decomposition
 
@@ -134,7 +134,7 @@ module _ (asked : Setting) (budget : ℕ) (m : List Float) (p p' : Pair) (w w' :
     told' = subst (λ c. LengthsTold c asked m p' w') (sym same) (told p' w')
 
     -- In place, p and p' hold the matrix itself as T.
-    pub decomposition_lent : argument_checks (lengths_of p w) asked budget m ≡ Passed
+    pub decomposition_lent : argument_checks (lengths_of p w) asked budget m ≡ passed
         → SameOutcome asked (decomposition_of asked budget m p w) (decomposition_of asked budget m p' w')
     decomposition_lent h =
         subst (λ c. SameOutcome asked (decomposition_of asked budget m p w) (entry_of c asked budget m p' w')) same

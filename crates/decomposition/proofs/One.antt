@@ -1,5 +1,6 @@
 -- One contract, one answer: two answers of an entry, each with the lent buffers behind it, that its contract allows on the same arguments are the same.
 -- The contracts are those that are read from the source, `Post`: what each function has to show. Assumes nothing.
+use Rattle.decomposition.specs.Decomposition.{Decomposed}
 use mathlib.Core.Path.{◌≡◌, ap}
 use mathlib.Core.List.{List}
 use contract.Lifetimes.{Lfts}
@@ -7,7 +8,6 @@ use borrow.Fn.Kinds.{Dens, ended_of}
 use denote.Triple.Clauses.{AtExit}
 use lib.Ieee.{Float}
 use Rattle.loops.specs.One.{one_answer}
-use Rattle.decomposition.specs.declared.Decomposed.{Decomposed}
 use Rattle.decomposition.proofs.try_new.Kinds as kinds
 use Rattle.decomposition.proofs.try_new.Reads as reads
 use Rattle.decomposition.proofs.try_new_in_place.Kinds as kinds_in_place

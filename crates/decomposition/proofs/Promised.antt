@@ -1,5 +1,6 @@
 -- What an entry promises beside its equation, told of what it has answered and left: an accepted count lies below the budget, and an accepted T has the shape.
 -- Assumes nothing.
+use Rattle.decomposition.specs.Decomposition.{Decomposed}
 use Prim.Native.Nat.{ℕ}
 use mathlib.Core.Path.{◌≡◌, ap}
 use mathlib.Core.List.{List}
@@ -7,7 +8,6 @@ use lib.ListN.{length}
 use lib.Ieee.{Float}
 use Rattle.pass.specs.declared.setting.Setting.{Setting}
 use Rattle.pass.specs.Pair.{Pair}
-use Rattle.decomposition.specs.declared.Decomposed.{Decomposed}
 use Rattle.decomposition.specs.Decomposition.{outcome, decomposition_of, BelowBudget, Shaped}
 use Rattle.decomposition.proofs.CheckedArguments.{all_lent}
 use Rattle.decomposition.proofs.Count.{count_below}

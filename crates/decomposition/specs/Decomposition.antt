@@ -1,22 +1,24 @@
 -- The decomposition on all inputs: what is answered, and what T, Q and the workspace hold afterwards.
-use Rattle.std.specs.Prelude.{ℕ, ◌<◌, List, length, Float}
+use Rattle.refusal.specs.Refusal.{Checked}
+use Rattle.schur.specs.Run.{Ran}
+use Rattle.std.specs.Prelude.{ℕ, ◌<◌, List, length, Result, Ok, Err, Float}
 use Rattle.std.specs.Float.{nan}
 use Rattle.loops.specs.Constants.{zero}
 use Rattle.matrix.specs.Vectors.{filled}
 use Rattle.pass.specs.declared.setting.Setting.{Setting}
 use Rattle.pass.specs.Pair.{Pair, pair, on_q}
-use Rattle.schur.specs.declared.run.Ran.{Ran}
-use Rattle.schur.specs.declared.run.Ran.TheVariants.{Ended, BudgetReached, Unfit}
+use Rattle.schur.specs.declared.run.Stopped.TheVariants.{BudgetReached, Unfit}
 use Rattle.schur.specs.Run.{Left, ran_of}
+use Rattle.refusal.specs.declared.refusal.Refusal.{Refusal}
 use Rattle.refusal.specs.declared.refusal.Refusal.TheVariants as refusal
 use Rattle.refusal.specs.declared.refusal.Told.{Told}
-use Rattle.refusal.specs.declared.refusal.Checked.{Checked}
-use Rattle.refusal.specs.declared.refusal.Checked.TheVariants.{Passed, Refused}
 use Rattle.refusal.specs.Refusal.{told_of, without_place}
 use Rattle.refusal.specs.Shape.{QuasiTriangular}
-use Rattle.decomposition.specs.declared.Decomposed.{Decomposed}
-use Rattle.decomposition.specs.declared.Decomposed.TheVariants.{Accepted, Declined}
 use Rattle.decomposition.specs.Checks.{all_lengths, argument_checks, result_checks}
+
+-- accepted, with the counted passes; or refused
+abbrev pub Decomposed : Type 0
+Decomposed = Result ℕ Refusal
 
 -- what is answered, what stands in T and Q, and in the workspace
 pub record Outcome : Type 0 where
@@ -32,15 +34,15 @@ outcome answer p w = record { answer = answer; pair = p; work = w }
 -- The budget was reached: 7. Else T and Q are looked at. That an argument does not fit is never met here, since the
 -- lengths were checked before.
 unfoldable pub verdict : Setting → Ran → Pair → Checked
-verdict asked (Ended passes) p = result_checks asked p
-verdict asked (BudgetReached window) p = Refused refusal.BudgetReached
-verdict asked Unfit p = Refused refusal.WrongLength
+verdict asked (Ok passes) p = result_checks asked p
+verdict asked (Err (BudgetReached window)) p = Err refusal.BudgetReached
+verdict asked (Err Unfit) p = Err refusal.WrongLength
 
 -- the counted passes of a run that ended
 unfoldable pub passes_of : Ran → ℕ
-passes_of (Ended passes) = passes
-passes_of (BudgetReached window) = 0
-passes_of Unfit = 0
+passes_of (Ok passes) = passes
+passes_of (Err (BudgetReached window)) = 0
+passes_of (Err Unfit) = 0
 
 -- refused: NaN in every entry of T, and of Q if it is wanted
 unfoldable pub nan_filled : Setting → Pair → Pair
@@ -54,8 +56,8 @@ abbrev pub settlement : Decomposed → Pair → Settlement
 settlement answer p = record { answer = answer; pair = p }
 
 unfoldable pub settled : Setting → (passes : ℕ) → Checked → Pair → Settlement
-settled asked passes Passed p = settlement (Accepted passes) p
-settled asked passes (Refused r) p = settlement (Declined r) (nan_filled asked p)
+settled asked passes (Ok u) p = settlement (Ok passes) p
+settled asked passes (Err r) p = settlement (Err r) (nan_filled asked p)
 
 -- a run that answered so, and left this T and Q
 unfoldable pub decided : Setting → Ran → Pair → Settlement
@@ -69,8 +71,8 @@ judged asked l w = let s = decided asked l.answer l.pair in outcome s.answer s.p
 
 -- refused before the run: nothing is touched
 unfoldable pub begun : Checked → Outcome → Pair → (w : List Float) → Outcome
-begun Passed ran p w = ran
-begun (Refused r) ran p w = outcome (Declined r) p w
+begun (Ok u) ran p w = ran
+begun (Err r) ran p w = outcome (Err r) p w
 
 -- Any entry: `lengths` are the checks of all that is lent, m is the matrix, p is what is lent for T and Q, and w the
 -- workspace.
@@ -89,15 +91,15 @@ placed_of asked budget p w = decomposition_of asked budget p.t p w
 
 -- what is answered, by the number and the place of document 01: 0 where it is accepted
 unfoldable pub decomposed_told : Decomposed → Told
-decomposed_told (Accepted passes) = without_place 0
-decomposed_told (Declined r) = told_of r
+decomposed_told (Ok passes) = without_place 0
+decomposed_told (Err r) = told_of r
 
 -- an accepted count lies below the budget
 abbrev pub BelowBudget : Decomposed → (budget : ℕ) → Type 0
-BelowBudget (Accepted passes) budget = passes < budget
-BelowBudget (Declined r) budget = Unit {0}
+BelowBudget (Ok passes) budget = passes < budget
+BelowBudget (Err r) budget = Unit {0}
 
 -- an accepted T is quasi-triangular
 abbrev pub Shaped : Decomposed → (n : ℕ) → (t : List Float) → Type 0
-Shaped (Accepted passes) n t = QuasiTriangular n t
-Shaped (Declined r) n t = Unit {0}
+Shaped (Ok passes) n t = QuasiTriangular n t
+Shaped (Err r) n t = Unit {0}

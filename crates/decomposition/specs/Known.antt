@@ -1,7 +1,8 @@
 -- Worked cases, by evaluation: patterns in, patterns out. The refusals, the places that they tell and what is left
 -- behind are document 01's; T, Q and the count of what is accepted were computed by the plain model of the Rust,
 -- oracle/src/model.rs. The letters are those of document 01's matrices.
-use Rattle.std.specs.Prelude.{◌≡◌, refl, ℕ, ◌*◌, Bool, true, false, List, [], ◌∷◌, map, Float}
+use Rattle.decomposition.specs.Decomposition.{Decomposed}
+use Rattle.std.specs.Prelude.{◌≡◌, refl, ℕ, ◌*◌, Bool, true, false, List, [], ◌∷◌, map, Float, Err, Ok}
 use Rattle.std.specs.Float.Ieee.{of_bits}
 use Rattle.std.specs.Float.{binary64}
 use Rattle.loops.specs.Constants.{one}
@@ -17,8 +18,6 @@ use Rattle.refusal.specs.Refusal.{told_of, refuse, refuse_at, ◌next◌}
 use Rattle.refusal.specs.Checks.{order_checks, length_check, only_if, lent_lengths, matrix_lengths, entry_checks}
 use Rattle.refusal.specs.Search.{first_row, first_col, first_place}
 use Rattle.refusal.specs.Search.{not_finite, spoils, first_not_finite, first_spoiling}
-use Rattle.decomposition.specs.declared.Decomposed.{Decomposed}
-use Rattle.decomposition.specs.declared.Decomposed.TheVariants.{Accepted, Declined}
 use Rattle.decomposition.specs.Checks.{tolerance_fits, budget_fits, all_lengths, argument_checks, result_checks}
 use Rattle.decomposition.specs.Decomposition.{Outcome, verdict, passes_of, nan_filled, settled, decided, judged}
 use Rattle.decomposition.specs.Decomposition.{begun, entry_of, decomposition_of, placed_of}
@@ -34,8 +33,8 @@ opened_decomposition = tt
 
 -- 0 and the count; or the number of the refusal and its place
 answer_of : Decomposed → List ℕ
-answer_of (Accepted passes) = 0 ∷ passes ∷ []
-answer_of (Declined r) = let x = told_of r in x.number ∷ x.row ∷ x.col ∷ []
+answer_of (Ok passes) = 0 ∷ passes ∷ []
+answer_of (Err r) = let x = told_of r in x.number ∷ x.row ∷ x.col ∷ []
 
 -- what is answered; T, Q and the workspace
 told : Outcome → List (List ℕ)

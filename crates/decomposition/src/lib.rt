@@ -6,7 +6,7 @@ ghost use Rattle.std.specs.Prelude.{◌≡◌, true, not, length, ◌≤◌};
 ghost use Rattle.pass.specs.Pair.{pair};
 ghost use Rattle.refusal.specs.declared.refusal.Refusal.TheVariants.{ToleranceOutside, BudgetOutside, ResultNotFinite};
 ghost use Rattle.refusal.specs.declared.refusal.Refusal.TheVariants.{ShapeSpoiled};
-ghost use Rattle.refusal.specs.Refusal.{refuse, refuse_at, ◌next◌};
+ghost use Rattle.refusal.specs.Refusal.{passed, refuse, refuse_at, ◌next◌};
 ghost use Rattle.refusal.specs.Search.{first_not_finite, first_spoiling};
 ghost use Rattle.refusal.specs.Checks.{only_if, entry_checks};
 ghost use Rattle.schur.specs.Run.{ran_of, run_fits};
@@ -16,15 +16,8 @@ ghost use Rattle.decomposition.specs.Decomposition.{decided, judged, decompositi
 ghost use Rattle.decomposition.specs.Decomposition.{Shaped};
 
 use pass::Setting;
-use refusal::{Checked, Refusal};
-use schur::Ran;
-
-// Accepted, with the counted passes; or not, and why.
-#[derive(Clone, Copy)]
-pub enum Decomposed {
-    Accepted(u64),
-    Declined(Refusal),
-}
+use refusal::Refusal;
+use schur::Stopped;
 
 // From 0 to below 1: also -0, and not NaN.
 pub fn tolerance_fits(x: f64) -> bool
@@ -46,28 +39,25 @@ pub fn budget_fits(b: u64) -> bool
 }
 
 // The matrix, T, Q if it is wanted, the workspace, by their lengths.
-fn check_all_lengths(asked: Setting, mn: usize, tn: usize, qn: usize, wn: usize) -> Checked
+fn check_all_lengths(asked: Setting, mn: usize, tn: usize, qn: usize, wn: usize) -> Result<(), Refusal>
     requires { asked.order ≤ 64 }
     ensures { result ≡ all_lengths asked mn tn qn wn }
 {
-    let lent = refusal::check_matrices(asked.wanted, asked.order * asked.order, mn, tn, qn);
-    let Checked::Passed = lent else {
-        return lent;
-    };
+    refusal::check_matrices(asked.wanted, asked.order * asked.order, mn, tn, qn)?;
     refusal::check_length(wn, 2 * asked.order, Refusal::WrongLength)
 }
 
 // Behind the lengths: the tolerance, the budget, the entries.
-fn check_values(m: &[f64], asked: Setting, budget: u64) -> Checked
+fn check_values(m: &[f64], asked: Setting, budget: u64) -> Result<(), Refusal>
     ensures { result ≡ (refuse (not (tolerance_fits asked.tolerance)) ToleranceOutside
         next refuse (not (budget_fits budget)) BudgetOutside
         next entry_checks asked.order m.now) }
 {
     if !tolerance_fits(asked.tolerance) {
-        return Checked::Refused(Refusal::ToleranceOutside);
+        return Err(Refusal::ToleranceOutside);
     }
     if !budget_fits(budget) {
-        return Checked::Refused(Refusal::BudgetOutside);
+        return Err(Refusal::BudgetOutside);
     }
     refusal::check_entries(m, asked.order)
 }
@@ -80,23 +70,17 @@ fn check_arguments(
     tn: usize,
     qn: usize,
     wn: usize,
-) -> Checked
+) -> Result<(), Refusal>
     ensures { result
         ≡ argument_checks (all_lengths asked (length m.now) tn qn wn) asked budget m.now }
 {
-    let order = refusal::check_order(asked.order);
-    let Checked::Passed = order else {
-        return order;
-    };
-    let lengths = check_all_lengths(asked, m.len(), tn, qn, wn);
-    let Checked::Passed = lengths else {
-        return lengths;
-    };
+    refusal::check_order(asked.order)?;
+    check_all_lengths(asked, m.len(), tn, qn, wn)?;
     check_values(m, asked, budget)
 }
 
 // Q holds a non-finite entry, if it is wanted; else the shape of T.
-fn check_q_and_shape(t: &[f64], q: &[f64], asked: Setting) -> Checked
+fn check_q_and_shape(t: &[f64], q: &[f64], asked: Setting) -> Result<(), Refusal>
     ensures { result ≡ (only_if asked.wanted
         (refuse_at ResultNotFinite (first_not_finite asked.order q.now))
         next refuse_at ShapeSpoiled (first_spoiling asked.order t.now)) }
@@ -105,39 +89,39 @@ fn check_q_and_shape(t: &[f64], q: &[f64], asked: Setting) -> Checked
         return refusal::check_shape(t, asked.order);
     }
     match refusal::check_result(q, asked.order) {
-        Checked::Refused(r) => Checked::Refused(r),
-        Checked::Passed => refusal::check_shape(t, asked.order),
+        Err(r) => Err(r),
+        Ok(()) => refusal::check_shape(t, asked.order),
     }
 }
 
 // T first, or else Q.
-fn check_t_and_q(t: &[f64], q: &[f64], asked: Setting) -> Checked
+fn check_t_and_q(t: &[f64], q: &[f64], asked: Setting) -> Result<(), Refusal>
     ensures { result ≡ result_checks asked (pair t.now q.now) }
 {
     match refusal::check_result(t, asked.order) {
-        Checked::Refused(r) => Checked::Refused(r),
-        Checked::Passed => check_q_and_shape(t, q, asked),
+        Err(r) => Err(r),
+        Ok(()) => check_q_and_shape(t, q, asked),
     }
 }
 
 // What is to be said of a run that left this T and Q.
-fn judge(ran: Ran, t: &[f64], q: &[f64], asked: Setting) -> Checked
+fn judge(ran: Result<u64, Stopped>, t: &[f64], q: &[f64], asked: Setting) -> Result<(), Refusal>
     ensures { result ≡ verdict asked ran (pair t.now q.now) }
 {
     match ran {
-        Ran::Ended(_) => check_t_and_q(t, q, asked),
-        Ran::BudgetReached(_) => Checked::Refused(Refusal::BudgetReached),
-        Ran::Unfit => Checked::Refused(Refusal::WrongLength),
+        Ok(_) => check_t_and_q(t, q, asked),
+        Err(Stopped::BudgetReached(_)) => Err(Refusal::BudgetReached),
+        Err(Stopped::Unfit) => Err(Refusal::WrongLength),
     }
 }
 
-fn passes_of(ran: Ran) -> u64
+fn passes_of(ran: Result<u64, Stopped>) -> u64
     ensures { result ≡ passes_of ran }
 {
     match ran {
-        Ran::Ended(passes) => passes,
-        Ran::BudgetReached(_) => 0,
-        Ran::Unfit => 0,
+        Ok(passes) => passes,
+        Err(Stopped::BudgetReached(_)) => 0,
+        Err(Stopped::Unfit) => 0,
     }
 }
 
@@ -153,22 +137,22 @@ fn fill_with_nan(t: &mut [f64], q: &mut [f64], asked: Setting)
 }
 
 // Answered as it was judged.
-fn settle(checked: Checked, passes: u64, t: &mut [f64], q: &mut [f64], asked: Setting) -> Decomposed
+fn settle(checked: Result<(), Refusal>, passes: u64, t: &mut [f64], q: &mut [f64], asked: Setting) -> Result<u64, Refusal>
     ensures { settlement result (pair t.new q.new)
         ≡ settled asked passes checked (pair t.old q.old) }
 {
     match checked {
-        Checked::Passed => Decomposed::Accepted(passes),
-        Checked::Refused(r) => {
+        Ok(()) => Ok(passes),
+        Err(r) => {
             fill_with_nan(t, q, asked);
-            Decomposed::Declined(r)
+            Err(r)
         }
     }
 }
 
 // What is answered to a run that answered so, and left this T and Q: for those who have checked its arguments
 // and made it themselves. Refused, T and Q are NaN throughout.
-pub fn decide(ran: Ran, t: &mut [f64], q: &mut [f64], asked: Setting) -> Decomposed
+pub fn decide(ran: Result<u64, Stopped>, t: &mut [f64], q: &mut [f64], asked: Setting) -> Result<u64, Refusal>
     ensures { settlement result (pair t.new q.new)
         ≡ decided asked ran (pair t.old q.old) }
 {
@@ -183,7 +167,7 @@ fn decompose(
     asked: Setting,
     budget: u64,
     work: &mut [f64],
-) -> Decomposed
+) -> Result<u64, Refusal>
     requires { run_fits asked.order (length t.old) (length work.old) ≡ true }
     ensures { outcome result (pair t.new q.new) work.new
         ≡ judged asked (ran_of asked budget (pair t.old q.old) work.old)
@@ -201,15 +185,15 @@ pub fn try_new_in_place(
     asked: Setting,
     budget: u64,
     work: &mut [f64],
-) -> Decomposed
+) -> Result<u64, Refusal>
     ensures work_after { outcome result (pair t.new q.new) work.new
         ≡ placed_of asked budget (pair t.old q.old) work.old }
     ensures below_budget { BelowBudget result budget }
     ensures shaped { Shaped result asked.order t.new }
 {
     match check_arguments(t, asked, budget, t.len(), q.len(), work.len()) {
-        Checked::Refused(r) => Decomposed::Declined(r),
-        Checked::Passed => decompose(t, q, asked, budget, work),
+        Err(r) => Err(r),
+        Ok(()) => decompose(t, q, asked, budget, work),
     }
 }
 
@@ -221,15 +205,15 @@ pub fn try_new(
     t: &mut [f64],
     q: &mut [f64],
     work: &mut [f64],
-) -> Decomposed
+) -> Result<u64, Refusal>
     ensures work_after { outcome result (pair t.new q.new) work.new
         ≡ decomposition_of asked budget m.now (pair t.old q.old) work.old }
     ensures below_budget { BelowBudget result budget }
     ensures shaped { Shaped result asked.order t.new }
 {
     match check_arguments(m, asked, budget, t.len(), q.len(), work.len()) {
-        Checked::Refused(r) => Decomposed::Declined(r),
-        Checked::Passed => {
+        Err(r) => Err(r),
+        Ok(()) => {
             matrix::copy_from(t, m);
             decompose(t, q, asked, budget, work)
         }

@@ -1,5 +1,7 @@
 -- The door and the library: where the checks on the bytes pass, what the door answers and writes is what `decomposition_of` answers and leaves on the floats
 -- of these bytes. So what the library's theorems say of an acceptance holds at the door (document 00, demand 3). Assumes nothing.
+use Rattle.std.specs.Prelude.{Ok}
+use Rattle.refusal.specs.Refusal.{Checked, passed}
 use Prim.Native.Nat.{ℕ, ◌*◌, ◌<◌}
 use mathlib.Core.Path.{◌≡◌, sym, ap, subst, ◌∙◌}
 use mathlib.Core.List.{List}
@@ -9,14 +11,11 @@ use lib.Ieee.{Float}
 use Rattle.matrix.proofs.Each.{zeros-length}
 use Rattle.matrix.specs.Vectors.{zeros}
 use Rattle.refusal.specs.declared.refusal.Refusal.TheVariants.{WrongLength}
-use Rattle.refusal.specs.declared.refusal.Checked.{Checked}
-use Rattle.refusal.specs.declared.refusal.Checked.TheVariants.{Passed}
 use Rattle.refusal.specs.Shape.{AllFinite, QuasiTriangular}
 use Rattle.refusal.proofs.ChecksInTurn.{next_passes}
 use Rattle.refusal.proofs.PassedChecks.{length_passes, matrices_passes}
 use Rattle.pass.specs.declared.setting.Setting.{Setting}
 use Rattle.pass.specs.Pair.{Pair, pair}
-use Rattle.decomposition.specs.declared.Decomposed.TheVariants.{Accepted}
 use Rattle.decomposition.specs.Checks.{all_lengths}
 use Rattle.decomposition.specs.Decomposition.{Outcome, Settlement, settlement, judged}
 use Rattle.decomposition.proofs.CheckedArguments.{Sizes, Right, all_right, all_lent, passed_judged}
@@ -32,7 +31,7 @@ use Rattle.door.specs.Matrices.{AcceptedBytes}
 use Rattle.door.specs.Inner.{MatricesDone}
 use Rattle.door.proofs.MatrixLengths.{matrix_fit}
 
-module _ (r : Request) (m t q : List ℕ) (passed : matrix_checks r m (length t) (length q) ≡ Passed) where
+module _ (r : Request) (m t q : List ℕ) (passed : matrix_checks r m (length t) (length q) ≡ passed) where
   abbrev n : ℕ
   n = r.order
 
@@ -52,12 +51,12 @@ module _ (r : Request) (m t q : List ℕ) (passed : matrix_checks r m (length t)
   abbrev lengths : Checked
   lengths = all_lengths asked (length a) (length p.t) (length p.q) (length w)
 
-  lent : lengths ≡ Passed → Sizes n (length a) (length p.t) (length w)
+  lent : lengths ≡ passed → Sizes n (length a) (length p.t) (length w)
   lent = all_lent asked (length a) (length p.t) (length p.q) (length w)
 
   -- ---- the library's checks pass on the floats
 
-  lengths_pass : lengths ≡ Passed
+  lengths_pass : lengths ≡ passed
   unfolding all_lengths
   lengths_pass =
       let square = zeros-length (n * n) in
@@ -84,7 +83,7 @@ module _ (r : Request) (m t q : List ℕ) (passed : matrix_checks r m (length t)
   -- ---- acceptances
 
   -- the library's are told by a number below 2^32, the count
-  pub door_accepted : {c : ℕ} → (library_of r m).answer ≡ Accepted c → ((decompose_bytes r m t q).answer ≡ c) × (c < 0x1_0000_0000)
+  pub door_accepted : {c : ℕ} → (library_of r m).answer ≡ Ok c → ((decompose_bytes r m t q).answer ≡ c) × (c < 0x1_0000_0000)
   unfolding written_matrices decomposed_number
   door_accepted e =
       let told : (decompose_bytes r m t q).answer ≡ decomposed_number (library_of r m).answer = ap (λ (x : Matrices). x.answer) door_decomposition in
@@ -96,7 +95,7 @@ module _ (r : Request) (m t q : List ℕ) (passed : matrix_checks r m (length t)
   accepted_bytes {answer} d l =
       let told : answer ≡ decomposed_number (ran_floats r m).answer = ap (λ (x : Matrices). x.answer) d.bytes in
       let came = ap (λ (s : Settlement). s.answer) library_ran in
-      let e : (library_of r m).answer ≡ Accepted answer = came ∙ accepted_number _ (omega (arith, told)) ∙ ap Accepted (sym told) in
+      let e : (library_of r m).answer ≡ Ok answer = came ∙ accepted_number _ (omega (arith, told)) ∙ ap Ok (sym told) in
       let count = accepted_count lengths asked a p w lent r.budget e in
       let in_t = ap (λ (s : Settlement). s.pair.t) library_ran ∙ sym d.held_t in
       record {

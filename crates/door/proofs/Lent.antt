@@ -1,13 +1,13 @@
 -- What lent bytes held is not felt: two calls on one matrix, with bytes of the same lengths lent for the results, answer the same and write the same, whatever
 -- these held. Assumes nothing.
+use Rattle.std.specs.Prelude.{Err, Ok}
+use Rattle.refusal.specs.Refusal.{Checked, passed}
 use Prim.Native.Nat.{ℕ}
 use mathlib.Core.Bool.{true}
 use mathlib.Core.Path.{◌≡◌, refl}
 use mathlib.Core.List.{List}
 use native.Mathlib.Omega.{arith}
 use lib.ListN.{length}
-use Rattle.refusal.specs.declared.refusal.Checked.{Checked}
-use Rattle.refusal.specs.declared.refusal.Checked.TheVariants.{Passed, Refused}
 use Rattle.refusal.specs.Refusal.{if_passed}
 use Rattle.eigenvalues.specs.Readers.{Read}
 use Rattle.answer.specs.Answer.{checked_number}
@@ -30,18 +30,18 @@ module _ (r : Request) (m t t' q q' : List ℕ) (long_t : length t ≡ length t'
   checks_same : matrix_checks r m (length t') (length q') ≡ checks
   checks_same = rw (← long_t, ← long_q) refl
 
-  written : (c : Checked) → c ≡ Passed → SameBytes r (decomposed_from c (ran_bytes r m q) t q) (decomposed_from c (ran_bytes r m q') t' q')
+  written : (c : Checked) → c ≡ passed → SameBytes r (decomposed_from c (ran_bytes r m q) t q) (decomposed_from c (ran_bytes r m q') t' q')
   unfolding decomposed_from ran_bytes written_matrices
   written c h = rw h (record { answer = refl; t = refl; q = λ e. rw e refl })
 
-  pub door_lent : checks ≡ Passed → SameBytes r (decompose_bytes r m t q) (decompose_bytes r m t' q')
+  pub door_lent : checks ≡ passed → SameBytes r (decompose_bytes r m t q) (decompose_bytes r m t' q')
   unfolding decompose_bytes
   door_lent h = rw checks_same (written checks h)
 
   answer_by : (c : Checked) → (decomposed_from c (ran_bytes r m q) t q).answer ≡ (decomposed_from c (ran_bytes r m q') t' q').answer
   unfolding decomposed_from ran_bytes written_matrices
-  answer_by Passed = refl
-  answer_by (Refused x) = refl
+  answer_by passed = refl
+  answer_by (Err x) = refl
 
   -- refused before the run, too
   pub door_answer : (decompose_bytes r m t q).answer ≡ (decompose_bytes r m t' q').answer
@@ -56,13 +56,13 @@ pub record SameListed (x y : Listed) : Type 0 where
 
 given_same : (c : Checked) (x values values' : List ℕ) → checked_number c ≡ 0 → if_passed c x values ≡ if_passed c x values'
 unfolding checked_number if_passed
-given_same Passed x values values' e = refl
-given_same (Refused r) x values values' e = absurd (omega (arith, refusal_large r))
+given_same (Ok u) x values values' e = refl
+given_same (Err r) x values values' e = absurd (omega (arith, refusal_large r))
 
 from_same : (c : Checked) (r : Read) (values values' : List ℕ) → SameListed (plain_from c r values) (plain_from c r values')
 unfolding plain_from
-from_same Passed r values values' = record { answer = refl; values = given_same r.answer _ values values' }
-from_same (Refused x) r values values' = record { answer = refl; values = λ e. absurd (omega (arith, refusal_large x)) }
+from_same (Ok u) r values values' = record { answer = refl; values = given_same r.answer _ values values' }
+from_same (Err x) r values values' = record { answer = refl; values = λ e. absurd (omega (arith, refusal_large x)) }
 
 pub plain_door_lent : (n : ℕ) (m values values' : List ℕ) → length values ≡ length values' → SameListed (plain_bytes n m values) (plain_bytes n m values')
 unfolding plain_bytes

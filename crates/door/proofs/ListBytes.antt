@@ -1,4 +1,6 @@
 -- What an entry that gives lists answers over bytes, and the bytes that it leaves, told of the pieces that the code has in hand. Assumes nothing.
+use Rattle.std.specs.Prelude.{Err, Ok}
+use Rattle.refusal.specs.Refusal.{Checked, passed}
 use Prim.Native.Nat.{ℕ, ◌*◌, ◌≤◌}
 use mathlib.Core.Path.{◌≡◌, refl, ap, ◌∙◌}
 use mathlib.Core.List.{List}
@@ -6,8 +8,6 @@ use lib.ListN.{length}
 use lib.Ieee.{Float}
 use Rattle.matrix.proofs.Each.{zeros-length}
 use Rattle.matrix.specs.Vectors.{zeros}
-use Rattle.refusal.specs.declared.refusal.Checked.{Checked}
-use Rattle.refusal.specs.declared.refusal.Checked.TheVariants.{Passed, Refused}
 use Rattle.refusal.specs.Refusal.{◌next◌, if_passed}
 use Rattle.refusal.specs.Checks.{order_checks}
 use Rattle.refusal.proofs.ChecksInTurn.{next_passes}
@@ -28,20 +28,20 @@ use Rattle.door.proofs.ListLengths.{list_fit, list_entries}
 -- what is written where all checks have passed: of a list that was read then
 written : (c : Checked) (x y : List Float) (z : List ℕ) → if_passed c (bytes_of (if_passed c x y)) z ≡ if_passed c (bytes_of x) z
 unfolding if_passed
-written Passed x y z = refl
-written (Refused r) x y z = refl
+written (Ok u) x y z = refl
+written (Err r) x y z = refl
 
 -- ---- the library's tests of the lengths pass too
 
-real_sized : (n : ℕ) {an xn : ℕ} → an ≡ n * n → xn ≡ n → real_lengths n an xn ≡ Passed
+real_sized : (n : ℕ) {an xn : ℕ} → an ≡ n * n → xn ≡ n → real_lengths n an xn ≡ passed
 unfolding real_lengths
 real_sized n square list = next_passes (length_passes _ square) (length_passes _ list)
 
-complex_sized : (n : ℕ) {an xn yn : ℕ} → an ≡ n * n → xn ≡ n → yn ≡ n → complex_lengths n an xn yn ≡ Passed
+complex_sized : (n : ℕ) {an xn yn : ℕ} → an ≡ n * n → xn ≡ n → yn ≡ n → complex_lengths n an xn yn ≡ passed
 unfolding complex_lengths
 complex_sized n square list second = next_passes (length_passes _ square) (next_passes (length_passes _ list) (length_passes _ second))
 
-plain_sized : (n : ℕ) {an xn yn : ℕ} → 1 ≤ n → n ≤ 64 → an ≡ n * n → xn ≡ n → yn ≡ 2 * n → (order_checks n next plain_lengths n an xn yn) ≡ Passed
+plain_sized : (n : ℕ) {an xn yn : ℕ} → 1 ≤ n → n ≤ 64 → an ≡ n * n → xn ≡ n → yn ≡ 2 * n → (order_checks n next plain_lengths n an xn yn) ≡ passed
 unfolding plain_lengths
 plain_sized n some order square list second =
     next_passes (order_passes some order) (next_passes (length_passes _ square) (next_passes (length_passes _ list) (length_passes _ second)))
@@ -50,7 +50,7 @@ plain_sized n some order square list second =
 
 -- the floats of the bytes in the matrix's place
 pub list_read : (e : ListEntry) (n : ℕ) (m re im re' im' : List ℕ) (x x' y y' : List Float) (c : Checked) (answer : ℕ)
-    → list_checks e n m (length re) (length im) ≡ Passed → length x ≡ n → y ≡ zeros (second_size e n)
+    → list_checks e n m (length re) (length im) ≡ passed → length x ≡ n → y ≡ zeros (second_size e n)
     → evaluated c x' y' ≡ evaluated_by e n (floats_of m) x y → re' ≡ if_passed c (bytes_of x') re → im' ≡ second_written e c y' im → answer ≡ checked_number c
     → complex_listed answer re' im' ≡ lists_bytes e n m re im
 unfolding lists_bytes real_bytes complex_bytes plain_bytes plain_from evaluated_by real_read complex_read plain_finite_of plain_begun left_by list_lengths second_length

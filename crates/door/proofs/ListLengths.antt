@@ -1,4 +1,6 @@
 -- Where the first checks of an entry that gives lists have passed: the lengths. Where one has not: the same is answered by all its checks. Assumes nothing.
+use Rattle.std.specs.Prelude.{Err}
+use Rattle.refusal.specs.Refusal.{passed}
 use Prim.Native.Nat.{ℕ, ◌*◌, ◌≤◌}
 use native.Mathlib.Omega.{arith}
 use mathlib.Core.Path.{◌≡◌, sym, ap, ◌∙◌}
@@ -8,7 +10,6 @@ use Rattle.loops.specs.Constants.{zero}
 use Rattle.loops.specs.Place.{square_64}
 use Rattle.matrix.specs.Vectors.{zeros}
 use Rattle.refusal.specs.declared.refusal.Refusal.{Refusal}
-use Rattle.refusal.specs.declared.refusal.Checked.TheVariants.{Passed, Refused}
 use Rattle.refusal.specs.Refusal.{if_passed}
 use Rattle.refusal.specs.Checks.{entry_checks}
 use Rattle.refusal.proofs.ChecksInTurn.{next_passed, next_refused}
@@ -29,12 +30,12 @@ pub record ListFit (e : ListEntry) (n mn rn jn : ℕ) : Type 0 where
   pub some : 1 ≤ n
   pub order : n ≤ 64
   pub small : n * n ≤ 4096
-  pub lent : list_lengths e n mn rn jn ≡ Passed
+  pub lent : list_lengths e n mn rn jn ≡ passed
   pub matrix : mn ≡ 8 * (n * n)
   pub list : rn ≡ 8 * n
-  pub second : second_length e n jn ≡ Passed
+  pub second : second_length e n jn ≡ passed
 
-pub list_fit : (e : ListEntry) (n : ℕ) (m : List ℕ) (rn jn : ℕ) → list_checks e n m rn jn ≡ Passed → ListFit e n (length m) rn jn
+pub list_fit : (e : ListEntry) (n : ℕ) (m : List ℕ) (rn jn : ℕ) → list_checks e n m rn jn ≡ passed → ListFit e n (length m) rn jn
 unfolding list_checks list_lengths
 list_fit e n m rn jn h =
     let g = given_passed _ n (floats_of m) h in
@@ -51,12 +52,12 @@ list_fit e n m rn jn h =
     }
 
 -- and the entries
-pub list_entries : (e : ListEntry) (n : ℕ) (m : List ℕ) (rn jn : ℕ) → list_checks e n m rn jn ≡ Passed → entry_checks n (floats_of m) ≡ Passed
+pub list_entries : (e : ListEntry) (n : ℕ) (m : List ℕ) (rn jn : ℕ) → list_checks e n m rn jn ≡ passed → entry_checks n (floats_of m) ≡ passed
 unfolding list_checks
 list_entries e n m rn jn h = entries_passes n (floats_of m) (given_passed _ n (floats_of m) h).entries
 
 -- the complex reader's second list
-pub complex_second : (n jn : ℕ) → second_length Complex n jn ≡ Passed → jn ≡ 8 * n
+pub complex_second : (n jn : ℕ) → second_length Complex n jn ≡ passed → jn ≡ 8 * n
 unfolding second_length
 complex_second n jn h = length_passed _ jn _ h
 
@@ -73,7 +74,7 @@ fresh_rooms size long spare f e large wide room = record {
 
 -- ---- refused: all that is lent is as it was
 
-pub kept : {r : Refusal} (e : ListEntry) (n : ℕ) (m re im : List ℕ) (answer : ℕ) → list_checks e n m (length re) (length im) ≡ Refused r
+pub kept : {r : Refusal} (e : ListEntry) (n : ℕ) (m re im : List ℕ) (answer : ℕ) → list_checks e n m (length re) (length im) ≡ Err r
     → answer ≡ refusal_number r
     → complex_listed answer re im ≡ lists_bytes e n m re im
 unfolding lists_bytes list_checks list_lengths second_length real_bytes real_checks complex_bytes complex_checks readable plain_bytes plain_from if_passed checked_number

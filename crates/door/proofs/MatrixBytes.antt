@@ -1,4 +1,7 @@
 -- What the decomposition answers over bytes, and the bytes that it leaves, told of the pieces that the code has in hand. Assumes nothing.
+use Rattle.std.specs.Prelude.{Err}
+use Rattle.refusal.specs.Refusal.{passed}
+use Rattle.schur.specs.Run.{Ran}
 use Prim.Native.Nat.{ℕ, ◌*◌, ◌<◌}
 use mathlib.Core.Path.{◌≡◌, ap, ◌∙◌}
 use mathlib.Core.Bool.{true, cond}
@@ -9,10 +12,8 @@ use lib.Ieee.{Float}
 use Rattle.matrix.specs.Vectors.{zeros}
 use Rattle.pass.specs.declared.setting.Setting.{Setting}
 use Rattle.pass.specs.Pair.{Pair, pair}
-use Rattle.schur.specs.declared.run.Ran.{Ran}
 use Rattle.schur.specs.Run.{Left, left, run_fits, ran_of, run_of}
 use Rattle.refusal.specs.declared.refusal.Refusal.{Refusal}
-use Rattle.refusal.specs.declared.refusal.Checked.TheVariants.{Passed, Refused}
 use Rattle.decomposition.specs.Decomposition.{Settlement, decided}
 use Rattle.words.specs.Floats.{floats_of, bytes_of}
 use Rattle.door.specs.declared.matrices.Request.{Request}
@@ -44,12 +45,12 @@ ran r m asked a c w came p s answer t' q q' same read_a zero_c zero_w fits run e
 
 -- ---- all of it, with what an acceptance promises
 
-pub decompose_kept : {x : Refusal} (r : Request) (m t q : List ℕ) (answer : ℕ) → matrix_checks r m (length t) (length q) ≡ Refused x → answer ≡ refusal_number x
+pub decompose_kept : {x : Refusal} (r : Request) (m t q : List ℕ) (answer : ℕ) → matrix_checks r m (length t) (length q) ≡ Err x → answer ≡ refusal_number x
     → (matrices answer t q ≡ decompose_bytes r m t q) × (answer < 0x1_0000_0000 → AcceptedBytes r m answer t q)
 unfolding decompose_bytes decomposed_from
 decompose_kept {x} r m t q answer refused told = (rw (refused, told), λ l. absurd (omega (arith, refusal_large x)))
 
-pub decompose_ran : (r : Request) (m t q : List ℕ) {answer : ℕ} {t' q' : List ℕ} → matrix_checks r m (length t) (length q) ≡ Passed
+pub decompose_ran : (r : Request) (m t q : List ℕ) {answer : ℕ} {t' q' : List ℕ} → matrix_checks r m (length t) (length q) ≡ passed
     → MatricesDone r m q answer t' q'
     → (matrices answer t' q' ≡ decompose_bytes r m t q) × (answer < 0x1_0000_0000 → AcceptedBytes r m answer t' q')
 unfolding decompose_bytes decomposed_from

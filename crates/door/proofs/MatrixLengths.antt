@@ -1,4 +1,5 @@
 -- Where the checks of the decomposition on the bytes have passed: the lengths, and that the run's own test holds. Assumes nothing.
+use Rattle.refusal.specs.Refusal.{passed}
 use Prim.Native.Nat.{ℕ, ◌*◌, ◌≤◌}
 use native.Mathlib.Omega.{arith}
 use mathlib.Core.Path.{◌≡◌, refl, sym}
@@ -7,7 +8,6 @@ use mathlib.Core.List.{List}
 use lib.ListN.{length, replicate, take}
 use Rattle.loops.specs.Constants.{zero}
 use Rattle.loops.specs.Place.{square_64}
-use Rattle.refusal.specs.declared.refusal.Checked.TheVariants.{Passed}
 use Rattle.refusal.proofs.PassedChecks.{matrices_passed}
 use Rattle.schur.specs.Run.{run_fits}
 use Rattle.decomposition.proofs.CheckedArguments.{all_right, sizes_fit}
@@ -24,7 +24,7 @@ pub record MatrixFit (r : Request) (mn tn qn : ℕ) : Type 0 where
   pub t : tn ≡ 8 * (r.order * r.order)
   pub q : r.wanted ≡ true → qn ≡ 8 * (r.order * r.order)
 
-pub matrix_fit : (r : Request) (m : List ℕ) (tn qn : ℕ) → matrix_checks r m tn qn ≡ Passed → MatrixFit r (length m) tn qn
+pub matrix_fit : (r : Request) (m : List ℕ) (tn qn : ℕ) → matrix_checks r m tn qn ≡ passed → MatrixFit r (length m) tn qn
 unfolding matrix_checks
 matrix_fit r m tn qn h =
     let x = all_right _ _ _ _ h in

@@ -1,9 +1,8 @@
 -- What the contracts of private functions name: the rooms of a call, and an entry that gives lists, on the floats in
 -- between.
+use Rattle.refusal.specs.Refusal.{Checked, passed}
 use Rattle.std.specs.Prelude.{ℕ, ◌*◌, ◌≤◌, true, ◌≡◌, List, length, Float}
 use Rattle.matrix.specs.Vectors.{zeros}
-use Rattle.refusal.specs.declared.refusal.Checked.{Checked}
-use Rattle.refusal.specs.declared.refusal.Checked.TheVariants.{Passed}
 use Rattle.refusal.specs.Refusal.{if_passed}
 use Rattle.eigenvalues.specs.Readers.{real_finite_of, complex_finite_of}
 use Rattle.plain.specs.Plain.{plain_finite_of}
@@ -21,11 +20,11 @@ use Rattle.door.specs.Lists.{list_checks}
 pub record MatrixUpTo (side : ℕ) (r : Request) (m t q : List ℕ) : Type 0 where
   pub order : r.order ≤ side
   pub square : r.order * r.order ≤ side * side
-  pub passed : matrix_checks r m (length t) (length q) ≡ Passed
+  pub passed : matrix_checks r m (length t) (length q) ≡ passed
 
 -- the arguments have passed, and the floats have their rooms: a for the matrix, c for Q, w for the workspace
 pub record MatrixRooms (r : Request) (m t q : List ℕ) (a c w : List Float) : Type 0 where
-  pub passed : matrix_checks r m (length t) (length q) ≡ Passed
+  pub passed : matrix_checks r m (length t) (length q) ≡ passed
   pub matrix : length a ≡ r.order * r.order
   pub for_q : c ≡ zeros (r.order * r.order)
   pub workspace : w ≡ zeros (2 * r.order)
@@ -49,11 +48,11 @@ second_size Plain n = 2 * n
 pub record ListUpTo (side : ℕ) (c : ListCall) (m re im : List ℕ) : Type 0 where
   pub order : c.order ≤ side
   pub square : c.order * c.order ≤ side * side
-  pub passed : list_checks c.entry c.order m (length re) (length im) ≡ Passed
+  pub passed : list_checks c.entry c.order m (length re) (length im) ≡ passed
 
 -- the first checks have passed, and the floats have their rooms: a for the matrix, x for the list, y beside it
 pub record ListRooms (c : ListCall) (m re im : List ℕ) (a x y : List Float) : Type 0 where
-  pub passed : list_checks c.entry c.order m (length re) (length im) ≡ Passed
+  pub passed : list_checks c.entry c.order m (length re) (length im) ≡ passed
   pub matrix : length a ≡ c.order * c.order
   pub list : length x ≡ c.order
   pub second : y ≡ zeros (second_size c.entry c.order)

@@ -1,12 +1,11 @@
 -- The entries that give lists of eigenvalues, over bytes: the two readers of a T, and the plain entry of a matrix.
 -- What each answers, and the bytes that it leaves, are the library's definitions on the floats whose patterns are
 -- lent; lengths are those of the bytes. A refusal leaves every lent byte as it was.
-use Rattle.std.specs.Prelude.{ℕ, ◌*◌, List, length}
+use Rattle.refusal.specs.Refusal.{Checked, passed}
+use Rattle.std.specs.Prelude.{ℕ, ◌*◌, List, length, Err, Ok}
 use Rattle.loops.specs.Table.{table}
 use Rattle.matrix.specs.Vectors.{zeros}
 use Rattle.refusal.specs.declared.refusal.Refusal.TheVariants.{WrongLength}
-use Rattle.refusal.specs.declared.refusal.Checked.{Checked}
-use Rattle.refusal.specs.declared.refusal.Checked.TheVariants.{Passed, Refused}
 use Rattle.refusal.specs.Refusal.{◌next◌, if_passed}
 use Rattle.refusal.specs.Checks.{length_check, given_checks}
 use Rattle.eigenvalues.specs.Blocks.{eigenvalue_at}
@@ -20,9 +19,9 @@ use Rattle.answer.specs.Answer.{refusal_number, checked_number}
 -- ---- lengths: eight bytes for each number, and a second list for the complex reader alone
 
 unfoldable pub second_length : ListEntry → (n jn : ℕ) → Checked
-second_length Real n jn = Passed
+second_length Real n jn = passed
 second_length Complex n jn = length_check WrongLength jn (8 * n)
-second_length Plain n jn = Passed
+second_length Plain n jn = passed
 
 -- T or the matrix, the list, the second list
 unfoldable pub list_lengths : ListEntry → (n mn rn jn : ℕ) → Checked
@@ -66,8 +65,8 @@ complex_bytes n t re im =
 -- ---- the plain entry
 
 unfoldable pub plain_from : Checked → Read → (values : List ℕ) → Listed
-plain_from Passed r values = listed (checked_number r.answer) (if_passed r.answer (bytes_of r.values) values)
-plain_from (Refused r) _ values = listed (refusal_number r) values
+plain_from (Ok u) r values = listed (checked_number r.answer) (if_passed r.answer (bytes_of r.values) values)
+plain_from (Err r) _ values = listed (refusal_number r) values
 
 unfoldable pub plain_bytes : (n : ℕ) → (m values : List ℕ) → Listed
 plain_bytes n m values =

@@ -1,7 +1,8 @@
 -- The decomposition over bytes: what it answers, and the bytes that it leaves. It is the library's definition on the
 -- floats whose patterns are lent; lengths are those of the bytes. A refusal before the run leaves every lent byte as
 -- it was; what is written is the pattern of a float, 7FF8000000000000 for NaN.
-use Rattle.std.specs.Prelude.{ℕ, ◌*◌, ◌<◌, Bool, true, cond, ◌≡◌, List, length}
+use Rattle.refusal.specs.Refusal.{Checked}
+use Rattle.std.specs.Prelude.{ℕ, ◌*◌, ◌<◌, Bool, true, cond, ◌≡◌, List, length, Err, Ok}
 use Rattle.std.specs.Float.{binary64}
 use Rattle.std.specs.Float.Ieee.{of_bits}
 use Rattle.matrix.specs.Vectors.{zeros}
@@ -9,11 +10,8 @@ use Rattle.pass.specs.declared.setting.Setting.{Setting}
 use Rattle.pass.specs.Setting.{setting}
 use Rattle.pass.specs.Pair.{pair}
 use Rattle.schur.specs.Run.{fresh_ran, count_of}
-use Rattle.refusal.specs.declared.refusal.Checked.{Checked}
-use Rattle.refusal.specs.declared.refusal.Checked.TheVariants.{Passed, Refused}
 use Rattle.refusal.specs.Checks.{matrix_lengths}
 use Rattle.refusal.specs.Shape.{AllFinite, QuasiTriangular}
-use Rattle.decomposition.specs.declared.Decomposed.TheVariants.{Accepted}
 use Rattle.decomposition.specs.Checks.{argument_checks}
 use Rattle.decomposition.specs.Decomposition.{Settlement, decided, Outcome, decomposition_of}
 use Rattle.words.specs.Floats.{floats_of, bytes_of}
@@ -60,8 +58,8 @@ ran_bytes r m q = written_matrices r.wanted (ran_floats r m) q
 
 -- refused before the run: every byte is as it was
 unfoldable pub decomposed_from : Checked → (written : Matrices) → (t q : List ℕ) → Matrices
-decomposed_from Passed written t q = written
-decomposed_from (Refused r) written t q = matrices (refusal_number r) t q
+decomposed_from (Ok u) written t q = written
+decomposed_from (Err r) written t q = matrices (refusal_number r) t q
 
 unfoldable pub decompose_bytes : Request → (m t q : List ℕ) → Matrices
 decompose_bytes r m t q = decomposed_from (matrix_checks r m (length t) (length q)) (ran_bytes r m q) t q
@@ -77,7 +75,7 @@ library_of r m =
 -- The number is the definition's count of passes and lies below the budget. Of what t's bytes hold, every entry is
 -- finite and the shape is quasi-triangular; of what q's hold, every entry is finite where Q is wanted.
 pub record AcceptedBytes (r : Request) (m : List ℕ) (answer : ℕ) (t q : List ℕ) : Type 0 where
-  pub accepted : (library_of r m).answer ≡ Accepted answer
+  pub accepted : (library_of r m).answer ≡ Ok answer
   pub counted : answer ≡ count_of (asked_by r) (floats_of m)
   pub below : answer < r.budget
   pub t_finite : AllFinite r.order (floats_of t)

@@ -3,14 +3,14 @@ ghost use Rattle.std.specs.Prelude.{◌≡◌};
 ghost use Rattle.refusal.specs.Checks.{entry_checks};
 ghost use Rattle.words.specs.Floats.{floats_of};
 
-use refusal::{Checked, Refusal, Search};
+use refusal::Refusal;
 
 // An entry is NaN or infinite: 6.
-pub(crate) fn check_entries(m: &[u8], n: usize) -> Checked
+pub(crate) fn check_entries(m: &[u8], n: usize) -> Result<(), Refusal>
     ensures { result ≡ entry_checks n (floats_of m.now) }
 {
     match words::first_not_finite(m, n) {
-        Search::At(p) => Checked::Refused(Refusal::EntryNotFinite(p)),
-        Search::Nowhere => Checked::Passed,
+        Some(p) => Err(Refusal::EntryNotFinite(p)),
+        None => Ok(()),
     }
 }

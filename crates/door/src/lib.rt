@@ -17,7 +17,7 @@ ghost use Rattle.door.specs.Lists.{listed, real_bytes, complex_listed, complex_b
 use answer::refusal_number;
 use lists::{ListCall, ListEntry};
 use matrices::Request;
-use refusal::Checked;
+use refusal::Refusal;
 
 // The square root, from pattern to pattern. Every NaN pattern gives 7FF8000000000000, and so does
 // every number below 0.
@@ -54,8 +54,8 @@ pub extern "C" fn manulsek_decompose(
         budget,
     };
     match matrices::check_arguments(m, request, t.len(), q.len()) {
-        Checked::Refused(r) => refusal_number(r),
-        Checked::Passed => matrices::run(request, m, t, q),
+        Err(r) => refusal_number(r),
+        Ok(()) => matrices::run(request, m, t, q),
     }
 }
 

@@ -1,8 +1,7 @@
 // The entries that give lists of eigenvalues, over bytes: checks, the floats, the eigenvalues, and their bytes. Their
 // rooms are a ladder of three sizes, and each call names its entry.
 ghost use Rattle.std.specs.Prelude.{◌≡◌, ◌*◌, ◌≤◌, length};
-ghost use Rattle.refusal.specs.declared.refusal.Checked.TheVariants.{Passed};
-ghost use Rattle.refusal.specs.Refusal.{if_passed};
+ghost use Rattle.refusal.specs.Refusal.{passed, if_passed};
 ghost use Rattle.words.specs.Floats.{bytes_of};
 ghost use Rattle.door.specs.Lists.{second_length, list_lengths, list_checks, complex_listed, lists_bytes};
 ghost use Rattle.door.specs.declared.lists.ListEntry.TheVariants.{Complex};
@@ -10,7 +9,7 @@ ghost use Rattle.door.specs.Inner.{ListUpTo, ListRooms, second_size, evaluated, 
 
 use crate::checks::check_entries;
 use answer::{checked_number, refusal_number};
-use refusal::{Checked, Refusal};
+use refusal::Refusal;
 
 // The two readers of a T, and the plain entry of a matrix.
 #[derive(Clone, Copy)]
@@ -27,52 +26,40 @@ pub struct ListCall {
 }
 
 // The second list, which the complex reader alone has.
-fn check_second(entry: ListEntry, n: usize, jn: usize) -> Checked
+fn check_second(entry: ListEntry, n: usize, jn: usize) -> Result<(), Refusal>
     requires { n ≤ 64 }
     ensures { result ≡ second_length entry n jn }
 {
     match entry {
-        ListEntry::Real => Checked::Passed,
+        ListEntry::Real => Ok(()),
         ListEntry::Complex => refusal::check_length(jn, 8 * n, Refusal::WrongLength),
-        ListEntry::Plain => Checked::Passed,
+        ListEntry::Plain => Ok(()),
     }
 }
 
 // T or the matrix, the list, the second list, in bytes.
-fn check_lengths(c: ListCall, mn: usize, rn: usize, jn: usize) -> Checked
+fn check_lengths(c: ListCall, mn: usize, rn: usize, jn: usize) -> Result<(), Refusal>
     requires { c.order ≤ 64 }
     ensures { result ≡ list_lengths c.entry c.order mn rn jn }
 {
-    let square = refusal::check_length(mn, 8 * (c.order * c.order), Refusal::WrongLength);
-    let Checked::Passed = square else {
-        return square;
-    };
-    let list = refusal::check_length(rn, 8 * c.order, Refusal::WrongLength);
-    let Checked::Passed = list else {
-        return list;
-    };
+    refusal::check_length(mn, 8 * (c.order * c.order), Refusal::WrongLength)?;
+    refusal::check_length(rn, 8 * c.order, Refusal::WrongLength)?;
     let entry = c.entry;
     check_second(entry, c.order, jn)
 }
 
 // What each entry checks first, in the order of document 01's table.
-fn check_arguments(c: ListCall, m: &[u8], rn: usize, jn: usize) -> Checked
+fn check_arguments(c: ListCall, m: &[u8], rn: usize, jn: usize) -> Result<(), Refusal>
     ensures { result ≡ list_checks c.entry c.order m.now rn jn }
 {
-    let order = refusal::check_order(c.order);
-    let Checked::Passed = order else {
-        return order;
-    };
-    let lengths = check_lengths(c, m.len(), rn, jn);
-    let Checked::Passed = lengths else {
-        return lengths;
-    };
+    refusal::check_order(c.order)?;
+    check_lengths(c, m.len(), rn, jn)?;
     check_entries(m, c.order)
 }
 
 // Of the floats, whose patterns were looked at: a is T or the matrix, x is for the list, y for the imaginary
 // parts or the workspace.
-fn evaluate(c: ListCall, a: &mut [f64], x: &mut [f64], y: &mut [f64]) -> Checked
+fn evaluate(c: ListCall, a: &mut [f64], x: &mut [f64], y: &mut [f64]) -> Result<(), Refusal>
     ensures { evaluated result x.new y.new
         ≡ evaluated_by c.entry c.order a.old x.old y.old }
 {
@@ -85,18 +72,18 @@ fn evaluate(c: ListCall, a: &mut [f64], x: &mut [f64], y: &mut [f64]) -> Checked
 }
 
 // The bytes of a list, where all checks have passed.
-fn write_list(checked: Checked, a: &[f64], b: &mut [u8])
+fn write_list(checked: Result<(), Refusal>, a: &[f64], b: &mut [u8])
     requires { length b.old ≡ 8 * length a.now }
     ensures { b.new ≡ if_passed checked (bytes_of a.now) b.old }
 {
-    let Checked::Passed = checked else {
+    let Ok(()) = checked else {
         return;
     };
     words::encode(a, b);
 }
 
 // And of the second list, if there is one.
-fn write_second(entry: ListEntry, checked: Checked, y: &[f64], im: &mut [u8])
+fn write_second(entry: ListEntry, checked: Result<(), Refusal>, y: &[f64], im: &mut [u8])
     requires { entry ≡ Complex → length im.old ≡ 8 * length y.now }
     ensures { im.new ≡ second_written entry checked y.now im.old }
 {
@@ -189,7 +176,7 @@ fn large(c: ListCall, m: &[u8], re: &mut [u8], im: &mut [u8]) -> u64
 
 // The first checks have passed. For orders above 8.
 fn larger(c: ListCall, m: &[u8], re: &mut [u8], im: &mut [u8]) -> u64
-    requires { list_checks c.entry c.order m.now (length re.old) (length im.old) ≡ Passed }
+    requires { list_checks c.entry c.order m.now (length re.old) (length im.old) ≡ passed }
     ensures { complex_listed result re.new im.new
         ≡ lists_bytes c.entry c.order m.now re.old im.old }
 {
@@ -201,7 +188,7 @@ fn larger(c: ListCall, m: &[u8], re: &mut [u8], im: &mut [u8]) -> u64
 
 // The first checks have passed.
 fn run(c: ListCall, m: &[u8], re: &mut [u8], im: &mut [u8]) -> u64
-    requires { list_checks c.entry c.order m.now (length re.old) (length im.old) ≡ Passed }
+    requires { list_checks c.entry c.order m.now (length re.old) (length im.old) ≡ passed }
     ensures { complex_listed result re.new im.new
         ≡ lists_bytes c.entry c.order m.now re.old im.old }
 {
@@ -248,7 +235,7 @@ pub(crate) fn call(c: ListCall, m: &[u8], re: &mut [u8], im: &mut [u8]) -> u64
         ≡ lists_bytes c.entry c.order m.now re.old im.old }
 {
     match check_arguments(c, m, re.len(), im.len()) {
-        Checked::Refused(r) => refusal_number(r),
-        Checked::Passed => run(c, m, re, im),
+        Err(r) => refusal_number(r),
+        Ok(()) => run(c, m, re, im),
     }
 }

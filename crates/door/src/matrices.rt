@@ -4,8 +4,7 @@ ghost use Rattle.std.specs.Prelude.{◌≡◌, true, cond, not, ◌*◌, length}
 ghost use Rattle.std.specs.Float.{binary64};
 ghost use Rattle.std.specs.Float.Ieee.{of_bits};
 ghost use Rattle.refusal.specs.declared.refusal.Refusal.TheVariants.{ToleranceOutside, BudgetOutside};
-ghost use Rattle.refusal.specs.declared.refusal.Checked.TheVariants.{Passed};
-ghost use Rattle.refusal.specs.Refusal.{refuse, ◌next◌};
+ghost use Rattle.refusal.specs.Refusal.{passed, refuse, ◌next◌};
 ghost use Rattle.refusal.specs.Checks.{entry_checks};
 ghost use Rattle.decomposition.specs.Checks.{tolerance_fits, budget_fits};
 ghost use Rattle.words.specs.Floats.{floats_of, bytes_of};
@@ -15,7 +14,7 @@ ghost use Rattle.door.specs.Inner.{MatrixUpTo, MatrixRooms, MatricesDone};
 use crate::checks::check_entries;
 use answer::decomposed_number;
 use pass::Setting;
-use refusal::{Checked, Refusal};
+use refusal::Refusal;
 
 // What a host asks for; the tolerance is told as its pattern.
 #[derive(Clone, Copy)]
@@ -49,33 +48,27 @@ fn tolerance_fits(tolerance: u64) -> bool
 }
 
 // Behind the lengths: the tolerance, the budget, the entries.
-fn check_values(m: &[u8], r: Request) -> Checked
+fn check_values(m: &[u8], r: Request) -> Result<(), Refusal>
     ensures { result ≡ (refuse (not (tolerance_fits (of_bits binary64 r.tolerance))) ToleranceOutside
         next refuse (not (budget_fits r.budget)) BudgetOutside
         next entry_checks r.order (floats_of m.now)) }
 {
     if !tolerance_fits(r.tolerance) {
-        return Checked::Refused(Refusal::ToleranceOutside);
+        return Err(Refusal::ToleranceOutside);
     }
     if !decomposition::budget_fits(r.budget) {
-        return Checked::Refused(Refusal::BudgetOutside);
+        return Err(Refusal::BudgetOutside);
     }
     check_entries(m, r.order)
 }
 
 // The arguments, in the order of document 01's table; tn and qn are the lengths of what is lent, in bytes.
-pub(crate) fn check_arguments(m: &[u8], r: Request, tn: usize, qn: usize) -> Checked
+pub(crate) fn check_arguments(m: &[u8], r: Request, tn: usize, qn: usize) -> Result<(), Refusal>
     ensures { result ≡ matrix_checks r m.now tn qn }
 {
-    let order = refusal::check_order(r.order);
-    let Checked::Passed = order else {
-        return order;
-    };
+    refusal::check_order(r.order)?;
     let needs = 8 * (r.order * r.order);
-    let lengths = refusal::check_matrices(r.wanted, needs, m.len(), tn, qn);
-    let Checked::Passed = lengths else {
-        return lengths;
-    };
+    refusal::check_matrices(r.wanted, needs, m.len(), tn, qn)?;
     check_values(m, r)
 }
 
@@ -165,7 +158,7 @@ fn large(r: Request, m: &[u8], t: &mut [u8], q: &mut [u8]) -> u64
 
 // The arguments have passed. For orders above 8.
 fn larger(r: Request, m: &[u8], t: &mut [u8], q: &mut [u8]) -> u64
-    requires { matrix_checks r m.now (length t.old) (length q.old) ≡ Passed }
+    requires { matrix_checks r m.now (length t.old) (length q.old) ≡ passed }
     ensures { MatricesDone r m.now q.old result t.new q.new }
 {
     if r.order <= 16 {
@@ -179,7 +172,7 @@ fn larger(r: Request, m: &[u8], t: &mut [u8], q: &mut [u8]) -> u64
 
 // The arguments have passed.
 pub(crate) fn run(r: Request, m: &[u8], t: &mut [u8], q: &mut [u8]) -> u64
-    requires { matrix_checks r m.now (length t.old) (length q.old) ≡ Passed }
+    requires { matrix_checks r m.now (length t.old) (length q.old) ≡ passed }
     ensures { MatricesDone r m.now q.old result t.new q.new }
 {
     if r.order <= 8 {

@@ -1,11 +1,11 @@
 -- One contract, one answer, for the readers: two answers, each with the lent lists behind it, that a contract allows on the same
 -- arguments are the same. The contracts are those that are read from the source, `Post`: what each function has to show. Assumes nothing.
+use Rattle.refusal.specs.Refusal.{Checked}
 use mathlib.Core.Path.{◌≡◌, ap}
 use contract.Lifetimes.{Lfts}
 use borrow.Fn.Kinds.{Dens, ended_of}
 use denote.Triple.Clauses.{AtExit}
 use Rattle.loops.specs.One.{one_answer}
-use Rattle.refusal.specs.declared.refusal.Checked.{Checked}
 use Rattle.eigenvalues.proofs.readers.eigenvalues.Kinds as real
 use Rattle.eigenvalues.proofs.readers.eigenvalues.Reads as reads_real
 use Rattle.eigenvalues.proofs.readers.eigenvalues_of_finite.Kinds as real_finite

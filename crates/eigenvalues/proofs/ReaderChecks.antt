@@ -1,12 +1,11 @@
 -- The checks of both readers: what is known where all have passed. Assumes nothing.
+use Rattle.refusal.specs.Refusal.{Checked, passed}
 use Prim.Native.Nat.{ℕ, ◌*◌, ◌≤◌}
 use mathlib.Core.Path.{◌≡◌}
 use mathlib.Core.List.{List}
 use lib.ListN.{length}
 use lib.Ieee.{Float}
 use Rattle.refusal.specs.declared.refusal.Refusal.TheVariants.{WrongLength}
-use Rattle.refusal.specs.declared.refusal.Checked.{Checked}
-use Rattle.refusal.specs.declared.refusal.Checked.TheVariants.{Passed}
 use Rattle.refusal.specs.Refusal.{◌next◌}
 use Rattle.refusal.specs.Checks.{order_checks, length_check}
 use Rattle.refusal.proofs.ChecksInTurn.{next_passed, next_before}
@@ -18,9 +17,9 @@ use Rattle.eigenvalues.specs.Readers.{readable, finite_readable}
 pub record Fit (n len : ℕ) (lists : Checked) : Type 0 where
   pub order : n ≤ 64
   pub size : len ≡ n * n
-  pub room : lists ≡ Passed
+  pub room : lists ≡ passed
 
-pub readable_fit : (n : ℕ) (t : List Float) (lists : Checked) → readable (length_check WrongLength (length t) (n * n) next lists) n t ≡ Passed
+pub readable_fit : (n : ℕ) (t : List Float) (lists : Checked) → readable (length_check WrongLength (length t) (n * n) next lists) n t ≡ passed
     → Fit n (length t) lists
 unfolding readable
 readable_fit n t lists h =
@@ -29,14 +28,14 @@ readable_fit n t lists h =
     record { order = g.order; size = l.size; room = l.behind }
 
 -- the same where the entries and the shape are not looked at
-pub sizes_fit : (n len : ℕ) (lists : Checked) → (order_checks n next length_check WrongLength len (n * n) next lists) ≡ Passed → Fit n len lists
+pub sizes_fit : (n len : ℕ) (lists : Checked) → (order_checks n next length_check WrongLength len (n * n) next lists) ≡ passed → Fit n len lists
 sizes_fit n len lists h =
     let o = order_then _ _ h in
     let l = length_then _ _ _ _ o.behind in
     record { order = o.order; size = l.size; room = l.behind }
 
 -- and where the entries alone are not
-pub finite_fit : (n : ℕ) (t : List Float) (lists : Checked) → finite_readable (length_check WrongLength (length t) (n * n) next lists) n t ≡ Passed
+pub finite_fit : (n : ℕ) (t : List Float) (lists : Checked) → finite_readable (length_check WrongLength (length t) (n * n) next lists) n t ≡ passed
     → Fit n (length t) lists
 unfolding finite_readable
 finite_fit n t lists h = sizes_fit n _ lists (next_before _ _ _ h)

@@ -1,5 +1,7 @@
 -- The real reader (document 00, demand 3): given a T that may be read, it answers the diagonal if every entry just below the diagonal is zero, and else
 -- 'complex'; and each of the two then only. Assumes nothing.
+use Rattle.std.specs.Prelude.{Err}
+use Rattle.refusal.specs.Refusal.{Checked, passed}
 use Prim.Native.Nat.{ℕ, ◌+◌, ◌*◌, ◌<◌, ◌≤◌}
 use mathlib.Core.Bool.{true, false, not}
 use mathlib.Core.Path.{◌≡◌, sym, ap, subst, ◌∙◌}
@@ -13,8 +15,6 @@ use Rattle.loops.specs.First.{first}
 use Rattle.loops.proofs.First.{first_named, some_none, some_named, none_some}
 use Rattle.refusal.specs.declared.refusal.Refusal.{Refusal}
 use Rattle.refusal.specs.declared.refusal.Refusal.TheVariants.{WrongLength, ComplexEigenvalues}
-use Rattle.refusal.specs.declared.refusal.Checked.{Checked}
-use Rattle.refusal.specs.declared.refusal.Checked.TheVariants.{Passed, Refused}
 use Rattle.refusal.specs.Refusal.{told_of, checked_told, refuse, refuse_at, if_passed}
 use Rattle.refusal.specs.Checks.{length_check}
 use Rattle.refusal.proofs.ChecksInTurn.{next_passed, next_passes, next_on, next_second, refuse_passed, refuse_refused, refuse_at_passed, Only, only_next}
@@ -82,12 +82,12 @@ module _ (n : ℕ) (t values : List Float) where
   abbrev answer : Checked
   answer = (real_read n t values).answer
 
-  lengths_pass : length t ≡ n * n → length values ≡ n → lengths ≡ Passed
+  lengths_pass : length t ≡ n * n → length values ≡ n → lengths ≡ passed
   unfolding real_lengths
   lengths_pass square room = next_passes (length_passes _ square) (length_passes _ room)
 
   -- what both readers check passes exactly on a T that may be read
-  given_readable : Given n t values → readable lengths n t ≡ Passed
+  given_readable : Given n t values → readable lengths n t ≡ passed
   unfolding readable shape_check refuse_at
   given_readable g =
       next_passes (given_passes (record {
@@ -98,7 +98,7 @@ module _ (n : ℕ) (t values : List Float) where
       }))
       (rw (shape_nowhere n t g.shape))
 
-  readable_given : readable lengths n t ≡ Passed → Given n t values
+  readable_given : readable lengths n t ≡ passed → Given n t values
   unfolding readable shape_check real_lengths
   readable_given h =
       let a = next_passed _ _ h in
@@ -119,27 +119,27 @@ module _ (n : ℕ) (t values : List Float) where
   given_answer g = next_on _ _ (given_readable g)
 
   -- the list by the answer
-  passed_values : answer ≡ Passed → (real_read n t values).values ≡ diagonal n t
+  passed_values : answer ≡ passed → (real_read n t values).values ≡ diagonal n t
   unfolding real_read left_by if_passed
   passed_values h = rw h
 
-  refused_values : {r : Refusal} → answer ≡ Refused r → (real_read n t values).values ≡ values
+  refused_values : {r : Refusal} → answer ≡ Err r → (real_read n t values).values ≡ values
   unfolding real_read left_by if_passed
   refused_values h = rw h
 
-  answers_real : Given n t values → AllZeroBelow n t → answer ≡ Passed
+  answers_real : Given n t values → AllZeroBelow n t → answer ≡ passed
   unfolding pair_check refuse
   answers_real g z = given_answer g ∙ ap (λ b. refuse b ComplexEigenvalues) (zero_none n t z)
 
-  answers_complex : Given n t values → OneNotZero n t → answer ≡ Refused ComplexEigenvalues
+  answers_complex : Given n t values → OneNotZero n t → answer ≡ Err ComplexEigenvalues
   unfolding pair_check refuse
   answers_complex g o = given_answer g ∙ ap (λ b. refuse b ComplexEigenvalues) (nonzero_any n t o)
 
-  real_only : answer ≡ Passed → Given n t values × AllZeroBelow n t
+  real_only : answer ≡ passed → Given n t values × AllZeroBelow n t
   unfolding real_read real_checks left_by pair_check
   real_only h = let a = next_passed _ _ h in (readable_given a.0, none_zero n t (refuse_passed _ _ a.1))
 
-  complex_only : answer ≡ Refused ComplexEigenvalues → Given n t values × OneNotZero n t
+  complex_only : answer ≡ Err ComplexEigenvalues → Given n t values × OneNotZero n t
   unfolding real_read real_checks left_by pair_check
   complex_only h =
       let a = next_second _ _ _ (readable_numbers lengths n t (lengths_numbers n _ _)) complex_own h in

@@ -1,7 +1,8 @@
 -- Worked cases, by evaluation: patterns in, patterns out. The eigenvalues were computed by the plain model of the Rust,
 -- oracle/src/model.rs; the refusals and the places that they tell are document 01's, which the Rust does not have. b,
 -- d, h, i and n are matrices with known outcomes of document 01.
-use Rattle.std.specs.Prelude.{◌≡◌, refl, ℕ, List, [], ◌∷◌, map, Float}
+use Rattle.refusal.specs.Refusal.{Checked}
+use Rattle.std.specs.Prelude.{◌≡◌, refl, ℕ, List, [], ◌∷◌, map, Float, Err, Ok}
 use Rattle.std.specs.Float.Ieee.{sub, neg, eq}
 use Rattle.loops.specs.Constants.{one}
 use Rattle.loops.specs.Times.{times}
@@ -12,8 +13,6 @@ use Rattle.scalar.specs.Class.{is_finite}
 use Rattle.matrix.specs.Known.{opened, shown}
 use Rattle.matrix.specs.Known.{numbers}
 use Rattle.pass.specs.Block.{block_at, discriminant}
-use Rattle.refusal.specs.declared.refusal.Checked.{Checked}
-use Rattle.refusal.specs.declared.refusal.Checked.TheVariants.{Passed, Refused}
 use Rattle.refusal.specs.Refusal.{told_of, refuse, refuse_at, ◌next◌, if_passed}
 use Rattle.refusal.specs.Search.{first_row, first_col, first_place}
 use Rattle.refusal.specs.Search.{first_on_diagonal, not_finite, spoils, first_not_finite}
@@ -39,8 +38,8 @@ opened_readers = tt
 
 -- 0; or the number of the refusal and its place
 unfoldable pub answer_of : Checked → List ℕ
-answer_of Passed = 0 ∷ []
-answer_of (Refused r) = let x = told_of r in x.number ∷ x.row ∷ x.col ∷ []
+answer_of (Ok u) = 0 ∷ []
+answer_of (Err r) = let x = told_of r in x.number ∷ x.row ∷ x.col ∷ []
 
 told : Read → List (List ℕ)
 told r = answer_of r.answer ∷ shown r.values ∷ []

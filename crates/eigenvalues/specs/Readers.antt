@@ -1,4 +1,5 @@
 -- The real and the complex reader of a given T: what each answers, and what the lent lists hold afterwards.
+use Rattle.refusal.specs.Refusal.{Checked}
 use Rattle.std.specs.Prelude.{ℕ, ◌*◌, Bool, not, ◌&&◌, List, length, Float}
 use Rattle.loops.specs.First.{some}
 use Rattle.loops.specs.Place.{place}
@@ -7,7 +8,6 @@ use Rattle.loops.specs.Table.{table}
 use Rattle.scalar.specs.Class.{is_finite}
 use Rattle.refusal.specs.declared.refusal.Refusal.TheVariants.{WrongLength, ResultNotFinite, ShapeSpoiled}
 use Rattle.refusal.specs.declared.refusal.Refusal.TheVariants.{ComplexEigenvalues, BlockNotComplex}
-use Rattle.refusal.specs.declared.refusal.Checked.{Checked}
 use Rattle.refusal.specs.Refusal.{refuse, refuse_at, ◌next◌, if_passed}
 use Rattle.refusal.specs.Search.{first_on_diagonal, first_spoiling}
 use Rattle.refusal.specs.Checks.{order_checks, length_check, given_checks}

@@ -2,8 +2,7 @@
 ghost use Rattle.std.specs.Prelude.{◌≡◌, length, ◌*◌, ◌<◌, ◌≤◌};
 ghost use Rattle.loops.specs.Table.{table};
 ghost use Rattle.refusal.specs.declared.refusal.Refusal.TheVariants.{WrongLength};
-ghost use Rattle.refusal.specs.declared.refusal.Checked.TheVariants.{Passed};
-ghost use Rattle.refusal.specs.Refusal.{◌next◌};
+ghost use Rattle.refusal.specs.Refusal.{passed, ◌next◌};
 ghost use Rattle.refusal.specs.Search.{first_on_diagonal};
 ghost use Rattle.refusal.specs.Checks.{length_check};
 ghost use Rattle.eigenvalues.specs.Blocks.{not_complex, eigenvalue_at};
@@ -14,20 +13,18 @@ ghost use Rattle.eigenvalues.specs.Readers.{complex_finite_of};
 ghost use Rattle.eigenvalues.specs.Real.{RealAnswer};
 
 use crate::block::{BlockAnswer, answer_at, eigenvalue_of, is_finite, is_not_complex, is_paired};
-use refusal::{Checked, Place, Refusal, Search};
+use refusal::{Place, Refusal};
 
 // 9, behind the checks that have come to `checked`.
-fn then_shape(t: &[f64], n: usize, checked: Checked) -> Checked
+fn then_shape(t: &[f64], n: usize, checked: Result<(), Refusal>) -> Result<(), Refusal>
     ensures { result ≡ (checked next shape_check n t.now) }
 {
-    let Checked::Passed = checked else {
-        return checked;
-    };
+    checked?;
     refusal::check_shape(t, n)
 }
 
 // What both check, in the order of document 01's table; the lengths of the lent lists have come to `lists`.
-fn readable(t: &[f64], n: usize, lists: Checked) -> Checked
+fn readable(t: &[f64], n: usize, lists: Result<(), Refusal>) -> Result<(), Refusal>
     ensures { result
         ≡ readable (length_check WrongLength (length t.now) (n * n) next lists) n t.now }
 {
@@ -35,7 +32,7 @@ fn readable(t: &[f64], n: usize, lists: Checked) -> Checked
 }
 
 // The same for entries that are known to be finite: they are not looked at again.
-fn finite_readable(t: &[f64], n: usize, lists: Checked) -> Checked
+fn finite_readable(t: &[f64], n: usize, lists: Result<(), Refusal>) -> Result<(), Refusal>
     ensures { result
         ≡ finite_readable (length_check WrongLength (length t.now) (n * n) next lists) n t.now }
 {
@@ -68,32 +65,30 @@ fn do_eigenvalues(t: &[f64], n: usize, values: &mut [f64])
 }
 
 // The diagonal, if no block of two stands: else 10, and `values` is left as it was.
-fn diagonal_of(t: &[f64], n: usize, values: &mut [f64]) -> Checked
+fn diagonal_of(t: &[f64], n: usize, values: &mut [f64]) -> Result<(), Refusal>
     requires { (n ≤ 64) × (length t.now ≡ n * n) × (length values.old ≡ n) }
     ensures { read result values.new
         ≡ diagonal_by (pair_check n t.now) n t.now values.old }
 {
     if any_paired(t, n) {
-        return Checked::Refused(Refusal::ComplexEigenvalues);
+        return Err(Refusal::ComplexEigenvalues);
     }
     do_eigenvalues(t, n, values);
-    Checked::Passed
+    Ok(())
 }
 
 // The same behind the checks that have come to `checked`: a refusal leaves `values` as it was.
-fn then_diagonal(t: &[f64], n: usize, values: &mut [f64], checked: Checked) -> Checked
-    requires { checked ≡ Passed → (n ≤ 64) × (length t.now ≡ n * n) × (length values.old ≡ n) }
+fn then_diagonal(t: &[f64], n: usize, values: &mut [f64], checked: Result<(), Refusal>) -> Result<(), Refusal>
+    requires { checked ≡ passed → (n ≤ 64) × (length t.now ≡ n * n) × (length values.old ≡ n) }
     ensures { read result values.new
         ≡ diagonal_by (checked next pair_check n t.now) n t.now values.old }
 {
-    let Checked::Passed = checked else {
-        return checked;
-    };
+    checked?;
     diagonal_of(t, n, values)
 }
 
 // The eigenvalues of T, if all are real. A refusal leaves `values` as it was.
-pub fn eigenvalues(t: &[f64], n: usize, values: &mut [f64]) -> Checked
+pub fn eigenvalues(t: &[f64], n: usize, values: &mut [f64]) -> Result<(), Refusal>
     ensures values_after { read result values.new ≡ real_read n t.now values.old }
     ensures real_answer { RealAnswer n t.now values.old result values.new }
 {
@@ -103,7 +98,7 @@ pub fn eigenvalues(t: &[f64], n: usize, values: &mut [f64]) -> Checked
 }
 
 // The same for entries that are known to be finite: they are not looked at again.
-pub fn eigenvalues_of_finite(t: &[f64], n: usize, values: &mut [f64]) -> Checked
+pub fn eigenvalues_of_finite(t: &[f64], n: usize, values: &mut [f64]) -> Result<(), Refusal>
     ensures { read result values.new ≡ real_finite_of n t.now values.old }
 {
     let list = refusal::check_length(values.len(), n, Refusal::WrongLength);
@@ -113,7 +108,7 @@ pub fn eigenvalues_of_finite(t: &[f64], n: usize, values: &mut [f64]) -> Checked
 
 // The same for a T whose entries and shape are known to be right, as an accepted T's are: they are not looked at
 // again.
-pub fn diagonal_if_real(t: &[f64], n: usize, values: &mut [f64]) -> Checked
+pub fn diagonal_if_real(t: &[f64], n: usize, values: &mut [f64]) -> Result<(), Refusal>
     ensures { read result values.new ≡ diagonal_if_real n t.now values.old }
 {
     let list = refusal::check_length(values.len(), n, Refusal::WrongLength);
@@ -122,23 +117,23 @@ pub fn diagonal_if_real(t: &[f64], n: usize, values: &mut [f64]) -> Checked
 }
 
 // The first block that is not complex.
-fn first_not_complex(t: &[f64], n: usize) -> Search
+fn first_not_complex(t: &[f64], n: usize) -> Option<Place>
     requires { (n ≤ 64) × (length t.now ≡ n * n) }
     ensures { result ≡ first_on_diagonal (not_complex n t.now) n }
 {
     let mut k = 0;
     while k < n {
         if is_not_complex(t, n, k) {
-            return Search::At(Place { row: k, col: k });
+            return Some(Place { row: k, col: k });
         }
         k = k + 1;
     }
-    Search::Nowhere
+    None
 }
 
 // The first eigenvalue that is not finite. Each pair's root is taken once: `before` is what the row before has
 // answered, and nothing stands before row 0.
-fn first_value_not_finite(t: &[f64], n: usize) -> Search
+fn first_value_not_finite(t: &[f64], n: usize) -> Option<Place>
     requires { (n ≤ 64) × (length t.now ≡ n * n) }
     ensures { result ≡ first_on_diagonal (not_finite_at n t.now) n }
 {
@@ -147,26 +142,26 @@ fn first_value_not_finite(t: &[f64], n: usize) -> Search
     while k < n {
         let here = answer_at(t, n, k);
         if !is_finite(eigenvalue_of(before, here)) {
-            return Search::At(Place { row: k, col: k });
+            return Some(Place { row: k, col: k });
         }
         before = here;
         k = k + 1;
     }
-    Search::Nowhere
+    None
 }
 
 // The complex reader's own checks: 11, and 8 last.
-fn check_blocks(t: &[f64], n: usize) -> Checked
+fn check_blocks(t: &[f64], n: usize) -> Result<(), Refusal>
     requires { (n ≤ 64) × (length t.now ≡ n * n) }
     ensures { result ≡ block_checks n t.now }
 {
-    if let Search::At(p) = first_not_complex(t, n) {
-        return Checked::Refused(Refusal::BlockNotComplex(p));
+    if let Some(p) = first_not_complex(t, n) {
+        return Err(Refusal::BlockNotComplex(p));
     }
-    if let Search::At(p) = first_value_not_finite(t, n) {
-        return Checked::Refused(Refusal::ResultNotFinite(p));
+    if let Some(p) = first_value_not_finite(t, n) {
+        return Err(Refusal::ResultNotFinite(p));
     }
-    Checked::Passed
+    Ok(())
 }
 
 // One for each row.
@@ -186,46 +181,38 @@ fn do_complex_eigenvalues(t: &[f64], n: usize, re: &mut [f64], im: &mut [f64])
 }
 
 // Each list has one number for each row.
-fn check_lists(n: usize, re: usize, im: usize) -> Checked
+fn check_lists(n: usize, re: usize, im: usize) -> Result<(), Refusal>
     ensures { result ≡ (length_check WrongLength re n next length_check WrongLength im n) }
 {
-    let checked = refusal::check_length(re, n, Refusal::WrongLength);
-    let Checked::Passed = checked else {
-        return checked;
-    };
+    refusal::check_length(re, n, Refusal::WrongLength)?;
     refusal::check_length(im, n, Refusal::WrongLength)
 }
 
 // They are written if those checks pass; else both lists are left as they were.
-fn pairs_of(t: &[f64], n: usize, re: &mut [f64], im: &mut [f64]) -> Checked
+fn pairs_of(t: &[f64], n: usize, re: &mut [f64], im: &mut [f64]) -> Result<(), Refusal>
     requires { (n ≤ 64) × (length t.now ≡ n * n) × (length re.old ≡ n) × (length im.old ≡ n) }
     ensures { complexly result re.new im.new
         ≡ eigenvalues_by (block_checks n t.now) n t.now re.old im.old }
 {
-    let checked = check_blocks(t, n);
-    let Checked::Passed = checked else {
-        return checked;
-    };
+    check_blocks(t, n)?;
     do_complex_eigenvalues(t, n, re, im);
-    checked
+    Ok(())
 }
 
 // The same behind the checks that have come to `checked`.
-fn then_pairs(t: &[f64], n: usize, re: &mut [f64], im: &mut [f64], checked: Checked) -> Checked
-    requires { checked ≡ Passed → (n ≤ 64) × (length t.now ≡ n * n) × (length re.old ≡ n)
+fn then_pairs(t: &[f64], n: usize, re: &mut [f64], im: &mut [f64], checked: Result<(), Refusal>) -> Result<(), Refusal>
+    requires { checked ≡ passed → (n ≤ 64) × (length t.now ≡ n * n) × (length re.old ≡ n)
         × (length im.old ≡ n) }
     ensures { complexly result re.new im.new
         ≡ eigenvalues_by (checked next block_checks n t.now) n t.now re.old
         im.old }
 {
-    let Checked::Passed = checked else {
-        return checked;
-    };
+    checked?;
     pairs_of(t, n, re, im)
 }
 
 // The eigenvalues of T, by their real and imaginary parts. A refusal leaves both lists as they were.
-pub fn complex_eigenvalues(t: &[f64], n: usize, re: &mut [f64], im: &mut [f64]) -> Checked
+pub fn complex_eigenvalues(t: &[f64], n: usize, re: &mut [f64], im: &mut [f64]) -> Result<(), Refusal>
     ensures { complexly result re.new im.new
         ≡ complex_read n t.now re.old im.old }
 {
@@ -234,7 +221,7 @@ pub fn complex_eigenvalues(t: &[f64], n: usize, re: &mut [f64], im: &mut [f64]) 
 }
 
 // The same for entries that are known to be finite: they are not looked at again.
-pub fn complex_eigenvalues_of_finite(t: &[f64], n: usize, re: &mut [f64], im: &mut [f64]) -> Checked
+pub fn complex_eigenvalues_of_finite(t: &[f64], n: usize, re: &mut [f64], im: &mut [f64]) -> Result<(), Refusal>
     ensures { complexly result re.new im.new
         ≡ complex_finite_of n t.now re.old im.old }
 {

@@ -2,16 +2,14 @@
 -- functions of the plain model of the Rust, oracle/src/model.rs. It has none for a rotation's norm, `cancel_y` and the
 -- inverse: those answers were worked out in Rust by the formulas of docs/SUMS.md. Where a place does not fit, the Rust
 -- has no answer, and a case shows what is defined there. -0 is 0x8000_0000_0000_0000, and NaN is 0x7ff8_0000_0000_0000.
-use Rattle.std.specs.Prelude.{◌≡◌, refl, ℕ, List, [], ◌∷◌, map, Float}
+use Rattle.std.specs.Prelude.{◌≡◌, refl, ℕ, List, [], ◌∷◌, map, Float, None, Option, Some}
 use Rattle.std.specs.Float.{binary64}
 use Rattle.std.specs.Float.Ieee.{of_bits, neg, sub, lt, eq}
 use Rattle.scalar.specs.Sign.{to_exp_of}
 use Rattle.matrix.specs.Known.{numbers, shown, opened}
 use Rattle.givens.specs.declared.Rotation.{Rotation}
 use Rattle.givens.specs.declared.Turn.{Turn}
-use Rattle.givens.specs.declared.Made.{Made}
-use Rattle.givens.specs.declared.Made.TheVariants.{Needed, NoneNeeded}
-use Rattle.givens.specs.Rotation.{rotation, identity_of, inverse_of, length_of, signed_length, try_new, or_identity}
+use Rattle.givens.specs.Rotation.{rotation, identity_of, inverse_of, try_new}
 use Rattle.givens.specs.Rotation.{new_of, cancel_y}
 use Rattle.givens.specs.Rotated.{turned_rows, rotated, turned_columns, rotated_rows}
 
@@ -19,9 +17,9 @@ use Rattle.givens.specs.Rotated.{turned_rows, rotated, turned_columns, rotated_r
 turn_shown : Turn → List ℕ
 turn_shown t = shown (t.rotation.c ∷ t.rotation.s ∷ t.norm ∷ [])
 
-made : Made → List ℕ
-made (Needed t) = turn_shown t
-made NoneNeeded = []
+made : Option Turn → List ℕ
+made (Some t) = turn_shown t
+made None = []
 
 -- made from two patterns
 with : {A : Type 0} → (Float → Float → A) → ℕ → ℕ → A
@@ -29,7 +27,7 @@ with f x y = f (of_bits binary64 x) (of_bits binary64 y)
 
 -- every definition that a case computes with
 unfoldable pub opened_here : Unit {0}
-unfolding opened turn_shown made with to_exp_of length_of signed_length try_new or_identity new_of cancel_y
+unfolding opened turn_shown made with to_exp_of try_new new_of cancel_y
     turned_rows rotated turned_columns rotated_rows sub lt eq neg
 opened_here = tt
 

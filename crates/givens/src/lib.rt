@@ -20,14 +20,8 @@ pub struct Turn {
     pub norm: f64,
 }
 
-// What making one answers: a rotation, or that none is needed.
-#[derive(Clone, Copy)]
-pub enum Made {
-    Needed(Turn),
-    NoneNeeded,
-}
-
 // Where row i of column j of a matrix of order n lies.
+#[tactic(auto, using(loops::specs::Place::placed))]
 fn at(n: usize, i: usize, j: usize) -> usize
     requires { (n ≤ 64) × (i < n) × (j < n) }
     ensures { (result ≡ j * n + i) × (j * n + i < n * n) × (n * n ≤ 4096) }
@@ -44,20 +38,19 @@ impl Rotation {
     }
 
     // From a cosine and a sine that are not normalized: the identity where their length is not above 0.
+    #[tactic(auto, unfolding(crate::specs::Rotation::new_of))]
     pub fn new(c: f64, s: f64) -> Turn
         ensures { result ≡ new_of c s }
     {
-        let Made::Needed(turn) = Rotation::try_new(c, s, 0.0) else {
-            return Turn {
-                rotation: Rotation::identity(),
-                norm: 0.0,
-            };
-        };
-        turn
+        Rotation::try_new(c, s, 0.0).unwrap_or(Turn {
+            rotation: Rotation::identity(),
+            norm: 0.0,
+        })
     }
 
     // The same: none where the length is not above eps.
-    pub fn try_new(c: f64, s: f64, eps: f64) -> Made
+    #[tactic(auto, unfolding(crate::specs::Rotation::try_new))]
+    pub fn try_new(c: f64, s: f64, eps: f64) -> Option<Turn>
         ensures { result ≡ try_new c s eps }
     {
         let exp = scalar::to_exp(c);
@@ -65,7 +58,7 @@ impl Rotation {
         let denom = scalar::sqrt(mod0 * mod0 + s * s);
         if denom > eps {
             let norm = exp.sign * denom;
-            return Made::Needed(Turn {
+            return Some(Turn {
                 rotation: Rotation {
                     c: mod0 / denom,
                     s: s / norm,
@@ -73,21 +66,22 @@ impl Rotation {
                 norm,
             });
         }
-        Made::NoneNeeded
+        None
     }
 
     // The rotation that takes (x, y) to (norm, 0): none is needed where y is 0.
-    pub fn cancel_y(x: f64, y: f64) -> Made
+    #[tactic(auto, unfolding(crate::specs::Rotation::cancel_y))]
+    pub fn cancel_y(x: f64, y: f64) -> Option<Turn>
         ensures { result ≡ cancel_y x y }
     {
         if scalar::is_zero(y) {
-            return Made::NoneNeeded;
+            return None;
         }
         let exp = scalar::to_exp(x);
         let mod0 = exp.magnitude;
         let denom = scalar::sqrt(mod0 * mod0 + y * y);
         let norm = exp.sign * denom;
-        Made::Needed(Turn {
+        Some(Turn {
             rotation: Rotation {
                 c: mod0 / denom,
                 s: -y / norm,

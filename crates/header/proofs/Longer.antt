@@ -1,5 +1,6 @@
 -- The program reads one byte more than the longest record has, and no further. What an input is examined to be is what its first 8213 bytes are. Assumes
 -- nothing.
+use Rattle.std.specs.Prelude.{Ok}
 use Prim.Native.Nat.{ℕ, ◌+◌, ◌*◌, ◌<◌, ◌≤◌}
 use mathlib.Core.Path.{◌≡◌, refl, sym, ◌∙◌}
 use mathlib.Core.Bool.{Bool, true, false}
@@ -12,7 +13,6 @@ use lib.Seq.{length-take-le, get_or-take}
 use Rattle.refusal.specs.Refusal.{refuse, ◌next◌}
 use Rattle.words.specs.Words.{le64}
 use Rattle.header.specs.declared.Header.{Header}
-use Rattle.header.specs.declared.Examined.TheVariants.{Fit}
 use Rattle.header.specs.Record.{le16, le32, header_of, header_checks, record_checks, examined}
 use Rattle.header.proofs.Fields.{le64_halves}
 use Rattle.header.proofs.Rooms.{square_32}
@@ -76,7 +76,7 @@ pub longer_examined : (b : List ℕ) → 8213 < length b → examined (take 8213
 unfolding examined
 longer_examined b h = rw (checks_alike b h, header_take 8213 b (omega arith))
 
-pub longer_unfit : {h : Header} (b : List ℕ) → 8213 < length b → examined b ≡ Fit h → ⊥
+pub longer_unfit : {h : Header} (b : List ℕ) → 8213 < length b → examined b ≡ Ok h → ⊥
 longer_unfit {h} b l e =
     let fit = fit_header b e in
     omega (arith, square_32 h.order fit.order)

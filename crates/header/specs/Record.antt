@@ -1,16 +1,14 @@
 -- A record: length (4 bytes: how many bytes follow), kind (2), order (2), budget (4), tolerance (8, the pattern of a
 -- float), then the entries, column by column, 8 bytes each; the lowest byte of each number first. And what is checked
 -- of it before anything else, in document 01's order.
-use Rattle.std.specs.Prelude.{ℕ, ◌+◌, ◌*◌, not, List, eqb, ltb, length, get_or}
+use Rattle.refusal.specs.Refusal.{Checked}
+use Rattle.refusal.specs.declared.refusal.Refusal.{Refusal}
+use Rattle.std.specs.Prelude.{ℕ, ◌+◌, ◌*◌, not, List, eqb, ltb, length, get_or, Err, Ok, Result}
 use Rattle.refusal.specs.declared.refusal.Refusal.TheVariants.{OrderZero, OrderTooLarge, InputCutShort, UnknownKind}
 use Rattle.refusal.specs.declared.refusal.Refusal.TheVariants.{InputLengthWrong}
-use Rattle.refusal.specs.declared.refusal.Checked.{Checked}
-use Rattle.refusal.specs.declared.refusal.Checked.TheVariants.{Passed, Refused}
 use Rattle.refusal.specs.Refusal.{refuse, ◌next◌}
 use Rattle.words.specs.Words.{le64}
 use Rattle.header.specs.declared.Header.{Header}
-use Rattle.header.specs.declared.Examined.{Examined}
-use Rattle.header.specs.declared.Examined.TheVariants.{Fit, Unfit}
 
 -- the number in two, and in four bytes from `at` on
 unfoldable pub le16 : List ℕ → ℕ → ℕ
@@ -36,9 +34,9 @@ unfoldable pub record_checks : List ℕ → Checked
 record_checks b = refuse (ltb (length b) 20) InputCutShort next header_checks (header_of b) (length b)
 
 -- what is known of a header by its checks
-unfoldable pub by_checks : Checked → Header → Examined
-by_checks Passed h = Fit h
-by_checks (Refused r) h = Unfit r
+unfoldable pub by_checks : Checked → Header → Result Header Refusal
+by_checks (Ok u) h = Ok h
+by_checks (Err r) h = Err r
 
-unfoldable pub examined : List ℕ → Examined
+unfoldable pub examined : List ℕ → Result Header Refusal
 examined b = by_checks (record_checks b) (header_of b)

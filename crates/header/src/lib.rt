@@ -7,7 +7,7 @@ ghost use Rattle.words.specs.Words.{le64};
 ghost use Rattle.header.specs.Record.{le16, le32, header_of, header_checks, examined};
 ghost use Rattle.header.specs.Read.{FieldRead, HeaderRead};
 
-use refusal::{Checked, Refusal};
+use refusal::Refusal;
 
 #[derive(Clone, Copy)]
 pub struct Header {
@@ -16,13 +16,6 @@ pub struct Header {
     pub order: usize,
     pub budget: u64,
     pub tolerance: u64,
-}
-
-// The header of a record without fault, or the first fault.
-#[derive(Clone, Copy)]
-pub enum Examined {
-    Fit(Header),
-    Unfit(Refusal),
 }
 
 fn byte(b: &[u8], at: usize) -> u64
@@ -80,7 +73,7 @@ fn told(order: usize) -> u64
 }
 
 // In the order of document 01, for an input of so many bytes.
-fn check(h: Header, bytes: u64) -> Checked
+fn check(h: Header, bytes: u64) -> Result<(), Refusal>
     requires { h.length < 2 ^ 32 }
     ensures { result ≡ header_checks h bytes }
 {
@@ -88,36 +81,36 @@ fn check(h: Header, bytes: u64) -> Checked
     let order = h.order;
     let length = h.length;
     if kind != 1 {
-        return Checked::Refused(Refusal::UnknownKind);
+        return Err(Refusal::UnknownKind);
     }
     if order == 0 {
-        return Checked::Refused(Refusal::OrderZero);
+        return Err(Refusal::OrderZero);
     }
     if order > 32 {
-        return Checked::Refused(Refusal::OrderTooLarge);
+        return Err(Refusal::OrderTooLarge);
     }
     if length != told(order) {
-        return Checked::Refused(Refusal::InputLengthWrong);
+        return Err(Refusal::InputLengthWrong);
     }
     if bytes < 4 + length {
-        return Checked::Refused(Refusal::InputCutShort);
+        return Err(Refusal::InputCutShort);
     }
     if 4 + length < bytes {
-        return Checked::Refused(Refusal::InputLengthWrong);
+        return Err(Refusal::InputLengthWrong);
     }
-    Checked::Passed
+    Ok(())
 }
 
 // The header of an input, whatever its bytes are, or the first fault.
-pub fn examine(input: &[u8]) -> Examined
+pub fn examine(input: &[u8]) -> Result<Header, Refusal>
     ensures { result ≡ examined input.now }
 {
     if input.len() < 20 {
-        return Examined::Unfit(Refusal::InputCutShort);
+        return Err(Refusal::InputCutShort);
     }
     let h = read_header(input);
     match check(h, input.len() as u64) {
-        Checked::Refused(r) => Examined::Unfit(r),
-        Checked::Passed => Examined::Fit(h),
+        Err(r) => Err(r),
+        Ok(()) => Ok(h),
     }
 }

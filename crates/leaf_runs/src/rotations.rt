@@ -2,7 +2,7 @@
 use crate::case::Case;
 use crate::draw::drawn;
 use crate::say::{number, word};
-use givens::{Made, Rotation, Turn};
+use givens::{Rotation, Turn};
 
 fn tell(r: Rotation) {
     number(r.c);
@@ -14,8 +14,8 @@ fn turn(m: Turn) {
     number(m.norm);
 }
 
-fn made(m: Made) {
-    if let Made::Needed(found) = m {
+fn made(m: Option<Turn>) {
+    if let Some(found) = m {
         turn(found);
     } else {
         word(b" none");

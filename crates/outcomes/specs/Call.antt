@@ -1,5 +1,7 @@
 -- A call as a caller makes it, and all that comes of it: what is answered, and what the lent memory holds afterwards.
 -- Every f64 is its pattern.
+use Rattle.refusal.specs.Refusal.{Checked}
+use Rattle.decomposition.specs.Decomposition.{Decomposed}
 use Rattle.std.specs.Prelude.{ℕ, ◌*◌, true, List, [], ◌∷◌}
 use Rattle.std.specs.Float.Ieee.{of_bits}
 use Rattle.std.specs.Float.{binary64}
@@ -8,10 +10,8 @@ use Rattle.matrix.specs.Known.{numbers, shown}
 use Rattle.pass.specs.Setting.{setting}
 use Rattle.pass.specs.Pair.{pair}
 use Rattle.refusal.specs.declared.refusal.Refusal.{Refusal}
-use Rattle.refusal.specs.declared.refusal.Checked.{Checked}
 use Rattle.refusal.specs.declared.refusal.Checked.TheVariants as checked
 use Rattle.refusal.specs.Refusal.{told_of}
-use Rattle.decomposition.specs.declared.Decomposed.{Decomposed}
 use Rattle.decomposition.specs.declared.Decomposed.TheVariants as decomposed
 use Rattle.decomposition.specs.Decomposition.{decomposition_of}
 use Rattle.eigenvalues.specs.Readers.{real_read, complex_read}

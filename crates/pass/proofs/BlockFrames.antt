@@ -1,4 +1,6 @@
 -- What turning and splitting a block keep: the lengths of T and Q, and the entries below the diagonal, but for the block's own. Assumes nothing.
+use Rattle.std.specs.Prelude.{None, Option, Some}
+use Rattle.givens.specs.declared.Rotation.{Rotation}
 use mathlib.Core.Path.{◌≡◌, refl, ◌∙◌}
 use Prim.Native.Nat.{ℕ, ◌+◌, ◌<◌, ◌≤◌}
 use mathlib.Core.List.{List}
@@ -17,29 +19,27 @@ use Rattle.givens.specs.Rotation.{inverse_of}
 use Rattle.givens.specs.Rotated.{rotated, rotated_rows}
 use Rattle.givens.proofs.Frames.{rotated-length, rotated_frame, rotated_rows-length, rotated_rows_frame}
 use Rattle.pass.specs.declared.setting.Setting.{Setting}
-use Rattle.pass.specs.declared.block.Basis.{Basis}
-use Rattle.pass.specs.declared.block.Basis.TheVariants.{Rotate, Stand}
 use Rattle.pass.specs.Pair.{Pair}
 use Rattle.pass.specs.Block.{block_at, basis_of, turned_t, turned_q, split_at}
 
 -- ---- by the rotation's answer
 
-pub turned_t-length : (n k : ℕ) (b : Basis) (t : List Float) → length (turned_t n k b t) ≡ length t
+pub turned_t-length : (n k : ℕ) (b : Option Rotation) (t : List Float) → length (turned_t n k b t) ≡ length t
 unfolding turned_t
-turned_t-length n k Stand t = refl
-turned_t-length n k (Rotate r) t = simp (length-set, rotated_rows-length, rotated-length)
+turned_t-length n k None t = refl
+turned_t-length n k (Some r) t = simp (length-set, rotated_rows-length, rotated-length)
 
-pub turned_q-length : (n k : ℕ) (b : Basis) (q : List Float) → length (turned_q n k b q) ≡ length q
+pub turned_q-length : (n k : ℕ) (b : Option Rotation) (q : List Float) → length (turned_q n k b q) ≡ length q
 unfolding turned_q
-turned_q-length n k Stand q = refl
-turned_q-length n k (Rotate r) q = rotated_rows-length r n k n q
+turned_q-length n k None q = refl
+turned_q-length n k (Some r) q = rotated_rows-length r n k n q
 
 -- of the entries below the diagonal only the block's own is changed
-turned_t_frame : (n k : ℕ) (b : Basis) (t : List Float) (i j : ℕ) → k + 2 ≤ n → i < n → j < i → (i ≡ k + 1 → j ≡ k → ⊥)
+turned_t_frame : (n k : ℕ) (b : Option Rotation) (t : List Float) (i j : ℕ) → k + 2 ≤ n → i < n → j < i → (i ≡ k + 1 → j ≡ k → ⊥)
     → turned_t n k b t ! place n i j ≡ t ! place n i j
 unfolding turned_t
-turned_t_frame n k Stand t i j m h l out = refl
-turned_t_frame n k (Rotate r) t i j m h l out =
+turned_t_frame n k None t i j m h l out = refl
+turned_t_frame n k (Some r) t i j m h l out =
     let rows = rotated (inverse_of r) n k k n t in
     get_or-set_other (rotated_rows r n k (k + 2) rows) (place n (k + 1) k) (place n i j) zero nan (places n i j (k + 1) k h (omega arith) out)
     ∙ rotated_rows_frame r n k (k + 2) rows i j h (λ o. out (omega arith) (omega arith))

@@ -1,4 +1,6 @@
 -- A pass, a split and order 2 keep the lengths of T and Q. Assumes nothing.
+use Rattle.std.specs.Prelude.{None, Option, Some}
+use Rattle.givens.specs.declared.Rotation.{Rotation}
 use Prim.Native.Nat.{ℕ, ◌+◌, ◌-◌}
 use mathlib.Core.Bool.{Bool, ◌&&◌}
 use mathlib.Core.Path.{◌≡◌, refl, sym, ◌∙◌}
@@ -19,8 +21,6 @@ use Rattle.reflection.proofs.Frames.{reflected-length, reflected_rows-length}
 use Rattle.householder.specs.Axis.{axis_of}
 use Rattle.window.specs.declared.Window.{Window}
 use Rattle.pass.specs.declared.setting.Setting.{Setting}
-use Rattle.pass.specs.declared.block.Basis.{Basis}
-use Rattle.pass.specs.declared.block.Basis.TheVariants.{Rotate, Stand}
 use Rattle.pass.specs.Pair.{Pair, pair, on_q}
 use Rattle.pass.specs.Pass.{first_column, bulge_end, column_at, swept, swept_past, reflected_at, rows_at, step_at, chased, closing, pass_here, pass_of}
 use Rattle.pass.specs.Block.{block_at, basis_of, turned_t, turned_q, split_at, columns_of, columns_in, order_two}
@@ -102,12 +102,12 @@ split_length asked k p =
     cond_hold (AsLong p) (block_fits n (length p.t) (k + 2) (k + 2)) (pair (turned_t n k b p.t) (on_q asked.wanted (turned_q n k b) p.q)) p
     (λ _. record { t = turned_t-length n k b p.t; q = on_q-length asked.wanted (turned_q n k b) p.q (turned_q-length n k b p.q) }) (same_long p)
 
-columns_of-length : (b : Basis) → length (columns_of b) ≡ 4
+columns_of-length : (b : Option Rotation) → length (columns_of b) ≡ 4
 unfolding columns_of
-columns_of-length Stand = refl
-columns_of-length (Rotate r) = refl
+columns_of-length None = refl
+columns_of-length (Some r) = refl
 
-columns_in-length : (b : Basis) (q : List Float) → length (columns_in b q) ≡ length q
+columns_in-length : (b : Option Rotation) (q : List Float) → length (columns_in b q) ≡ length q
 unfolding columns_in
 columns_in-length b q = cond_hold (λ s. length s ≡ length q) (eqb (length q) 4) (columns_of b) q (λ h. columns_of-length b ∙ sym (eqb-true _ _ h)) refl
 

@@ -24,20 +24,6 @@ pub struct Values {
     pub second: f64,
 }
 
-// Its eigenvalues, if they are real.
-#[derive(Clone, Copy)]
-pub enum Eigvals {
-    Real(Values),
-    NotReal,
-}
-
-// A rotation to use, or the block is left standing.
-#[derive(Clone, Copy)]
-pub enum Basis {
-    Rotate(Rotation),
-    Stand,
-}
-
 // The block with its upper left entry in row and column k.
 fn block_at(t: &[f64], n: usize, k: usize) -> Block
     requires { Reaches n (k + 1) t.now }
@@ -59,48 +45,48 @@ pub fn discriminant(m: Block) -> f64
     m.h10 * m.h01 + val * val
 }
 
-pub fn compute_2x2_eigvals(m: Block) -> Eigvals
+pub fn compute_2x2_eigvals(m: Block) -> Option<Values>
     ensures { result ≡ eigvals_of m }
 {
     let discr = discriminant(m);
     if discr >= 0.0 {
         let root = scalar::sqrt(discr);
         let half_tra = (m.h00 + m.h11) * 0.5;
-        return Eigvals::Real(Values {
+        return Some(Values {
             first: half_tra + root,
             second: half_tra - root,
         });
     }
-    Eigvals::NotReal
+    None
 }
 
 // None for a block that is triangular already or has no real eigenvalues.
-pub fn compute_2x2_basis(m: Block) -> Basis
+pub fn compute_2x2_basis(m: Block) -> Option<Rotation>
     ensures { result ≡ basis_of m }
 {
     if scalar::is_zero(m.h10) {
-        return Basis::Stand;
+        return None;
     }
-    let Eigvals::Real(eigvals) = compute_2x2_eigvals(m) else {
-        return Basis::Stand;
+    let Some(eigvals) = compute_2x2_eigvals(m) else {
+        return None;
     };
     let x1 = eigvals.first - m.h11;
     let x2 = eigvals.second - m.h11;
     // The larger of the two: the rotation's length is then worked out the more exactly.
     if scalar::modulus(x1) > scalar::modulus(x2) {
         let rot = Rotation::new(x1, m.h10).rotation;
-        return Basis::Rotate(rot);
+        return Some(rot);
     }
     let rot = Rotation::new(x2, m.h10).rotation;
-    Basis::Rotate(rot)
+    Some(rot)
 }
 
 // T turned by the rotation of the block at k: the block becomes triangular, or is left standing.
-fn turn_t(basis: Basis, t: &mut [f64], n: usize, k: usize)
+fn turn_t(basis: Option<Rotation>, t: &mut [f64], n: usize, k: usize)
     requires { Reaches n (k + 1) t.old }
     ensures { t.new ≡ turned_t n k basis t.old }
 {
-    let Basis::Rotate(rot) = basis else {
+    let Some(rot) = basis else {
         return;
     };
     rot.inverse().rotate(t, n, k, k, n);
@@ -109,11 +95,11 @@ fn turn_t(basis: Basis, t: &mut [f64], n: usize, k: usize)
 }
 
 // Q turned by the same.
-fn turn_q(basis: Basis, q: &mut [f64], n: usize, k: usize)
+fn turn_q(basis: Option<Rotation>, q: &mut [f64], n: usize, k: usize)
     requires { k + 1 < n }
     ensures { q.new ≡ turned_q n k basis q.old }
 {
-    let Basis::Rotate(rot) = basis else {
+    let Some(rot) = basis else {
         return;
     };
     rot.rotate_rows(q, n, k, n);
@@ -134,13 +120,13 @@ pub fn split(t: &mut [f64], q: &mut [f64], asked: Setting, k: usize)
 }
 
 // Q of order 2: the rotation itself, or the identity.
-fn basis_columns(basis: Basis, q: &mut [f64])
+fn basis_columns(basis: Option<Rotation>, q: &mut [f64])
     ensures { q.new ≡ columns_in basis q.old }
 {
     if q.len() != 4 {
         return;
     }
-    let Basis::Rotate(rot) = basis else {
+    let Some(rot) = basis else {
         q[0] = 1.0;
         q[1] = 0.0;
         q[2] = 0.0;

@@ -9,7 +9,7 @@ mod setting;
 mod shift;
 
 pub use block::{
-    Basis, Block, Eigvals, Values, compute_2x2_basis, compute_2x2_eigvals, decompose_2x2,
+    Block, Values, compute_2x2_basis, compute_2x2_eigvals, decompose_2x2,
     discriminant, split,
 };
 pub use setting::Setting;

@@ -1,4 +1,5 @@
 -- An accepted T may be read, so the real reader meets no refusal there but 10. Assumes nothing.
+use Rattle.std.specs.Prelude.{Ok}
 use Prim.Native.Nat.{ℕ}
 use mathlib.Core.Path.{◌≡◌}
 use mathlib.Core.List.{List}
@@ -6,7 +7,6 @@ use lib.ListN.{length}
 use lib.Ieee.{Float}
 use Rattle.pass.specs.declared.setting.Setting.{Setting}
 use Rattle.pass.specs.Pair.{Pair}
-use Rattle.decomposition.specs.declared.Decomposed.TheVariants.{Accepted}
 use Rattle.decomposition.specs.Decomposition.{Outcome, decomposition_of}
 use Rattle.decomposition.proofs.CheckedArguments.{all_right, all_lent}
 use Rattle.decomposition.proofs.Touched.{accepted_passed, t_square}
@@ -22,7 +22,7 @@ module _ (asked : Setting) (budget : ℕ) (m : List Float) (p : Pair) (w values 
   abbrev decomposed : Outcome
   decomposed = decomposition_of asked budget m p w
 
-  pub accepted_given : {c : ℕ} → decomposed.answer ≡ Accepted c → length values ≡ n → Given n decomposed.pair.t values
+  pub accepted_given : {c : ℕ} → decomposed.answer ≡ Ok c → length values ≡ n → Given n decomposed.pair.t values
   accepted_given e l =
       let h = accepted_passed _ asked budget m p w e in
       let r = all_right _ _ _ _ h in
@@ -37,6 +37,6 @@ module _ (asked : Setting) (budget : ℕ) (m : List Float) (p : Pair) (w values 
       }
 
   -- so no other refusal is met there
-  pub accepted_read : {c : ℕ} → decomposed.answer ≡ Accepted c → length values ≡ n
+  pub accepted_read : {c : ℕ} → decomposed.answer ≡ Ok c → length values ≡ n
       → (real_read n decomposed.pair.t values).answer ≡ pair_check n decomposed.pair.t
   accepted_read e l = given_answer n decomposed.pair.t values (accepted_given e l)

@@ -1,5 +1,7 @@
 -- What lent memory held is not felt: two calls of the plain entry on one matrix, with lists and workspaces of the same lengths, answer the same, leave the same
 -- where the matrix stood, and give the same eigenvalues, whatever the lists and the workspaces held. Assumes nothing.
+use Rattle.std.specs.Prelude.{Err, Ok}
+use Rattle.refusal.specs.Refusal.{Checked, passed}
 use Prim.Native.Nat.{ℕ}
 use mathlib.Core.Bool.{cond}
 use mathlib.Core.Path.{◌≡◌, refl, sym, ap, ◌∙◌}
@@ -9,8 +11,6 @@ use lib.ListN.{length}
 use lib.Ieee.{Float}
 use Rattle.pass.specs.Pair.{pair}
 use Rattle.pass.specs.Block.{block_at, eigvals_of}
-use Rattle.refusal.specs.declared.refusal.Checked.{Checked}
-use Rattle.refusal.specs.declared.refusal.Checked.TheVariants.{Passed, Refused}
 use Rattle.refusal.specs.Refusal.{if_passed}
 use Rattle.refusal.proofs.ChecksInTurn.{refused_not_passed}
 use Rattle.schur.specs.Run.{ran_of}
@@ -26,10 +26,10 @@ use Rattle.plain.proofs.Plainly.{given_sized, sizes_passed}
 pub record SamePlain (x y : InPlace) : Type 0 where
   pub answer : x.answer ≡ y.answer
   pub t : x.t ≡ y.t
-  pub values : x.answer ≡ Passed → x.values ≡ y.values
+  pub values : x.answer ≡ passed → x.values ≡ y.values
 
 -- a list that is given is what was read, whatever it held
-given_values : (r : Read) → r.answer ≡ Passed → (values : List Float) → (left_by r values).values ≡ r.values
+given_values : (r : Read) → r.answer ≡ passed → (values : List Float) → (left_by r values).values ≡ r.values
 unfolding left_by if_passed
 given_values r h values = rw h refl
 
@@ -56,7 +56,7 @@ module _ {vn : ℕ} (n : ℕ) (m w w' : List Float) (sized : Sized n (length m) 
   unfolding plain_left
   left_lent = ap (cond (eqb n 2) m) ran_lent.t
 
-  begun_lent : (values values' : List Float) → SamePlain (plain_begun Passed n m values w) (plain_begun Passed n m values' w')
+  begun_lent : (values values' : List Float) → SamePlain (plain_begun passed n m values w) (plain_begun passed n m values' w')
   unfolding plain_begun left_by
   begun_lent values values' = record {
     answer = ap (λ r. r.answer) read_lent;
@@ -67,11 +67,11 @@ module _ {vn : ℕ} (n : ℕ) (m w w' : List Float) (sized : Sized n (length m) 
   }
 
 -- what is refused before the run is the same refusal, and the matrix stands
-by_checks : {vn : ℕ} (c : Checked) (n : ℕ) (m values values' w w' : List Float) → (c ≡ Passed → Sized n (length m) vn (length w)) → length w ≡ length w'
+by_checks : {vn : ℕ} (c : Checked) (n : ℕ) (m values values' w w' : List Float) → (c ≡ passed → Sized n (length m) vn (length w)) → length w ≡ length w'
     → SamePlain (plain_begun c n m values w) (plain_begun c n m values' w')
 unfolding plain_begun
-by_checks Passed n m values values' w w' sized room = begun_lent n m w w' (sized refl) room values values'
-by_checks (Refused r) n m values values' w w' sized room = record { answer = refl; t = refl; values = λ h. absurd (refused_not_passed r h) }
+by_checks (Ok u) n m values values' w w' sized room = begun_lent n m w w' (sized refl) room values values'
+by_checks (Err r) n m values values' w w' sized room = record { answer = refl; t = refl; values = λ h. absurd (refused_not_passed r h) }
 
 -- ---- the three entries
 
@@ -86,6 +86,6 @@ module _ (n : ℕ) (m values values' w w' : List Float) (list : length values �
 
   -- of a matrix that is kept: the answer, and the eigenvalues where they are given
   pub plain_lent : ((plain_of n m values w).answer ≡ (plain_of n m values' w').answer)
-      × ((plain_of n m values w).answer ≡ Passed → (plain_of n m values w).values ≡ (plain_of n m values' w').values)
+      × ((plain_of n m values w).answer ≡ passed → (plain_of n m values w).values ≡ (plain_of n m values' w').values)
   unfolding plain_of
   plain_lent = (placed_lent.answer, placed_lent.values)

@@ -1,11 +1,11 @@
 -- One contract, one answer, for the plain entry: two answers, each with what was lent behind it, that a contract allows on the same arguments are the same.
 -- The contracts are those that are read from the source, `Post`: what each function has to show. Assumes nothing.
+use Rattle.refusal.specs.Refusal.{Checked}
 use mathlib.Core.Path.{◌≡◌, ap}
 use contract.Lifetimes.{Lfts}
 use borrow.Fn.Kinds.{Dens, ended_of}
 use denote.Triple.Clauses.{AtExit}
 use Rattle.loops.specs.One.{one_answer}
-use Rattle.refusal.specs.declared.refusal.Checked.{Checked}
 use Rattle.plain.specs.Plain.{InPlace}
 use Rattle.plain.proofs.plain_eigenvalues.Kinds as plain
 use Rattle.plain.proofs.plain_eigenvalues.Reads as reads_plain

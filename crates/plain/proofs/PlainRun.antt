@@ -1,5 +1,9 @@
 -- The plain entry is the decomposition without Q, with the tolerance 2 ^ -52 and the budget 10,000, and the real reader's last check; at order 2 it makes no
 -- run. So what is proved of 7 and 9 for the decomposition holds of the plain entry's 7 and 9. Assumes nothing.
+use Rattle.std.specs.Prelude.{Err, None, Ok, Option, Some}
+use Rattle.refusal.specs.Refusal.{Checked, passed}
+use Rattle.decomposition.specs.Decomposition.{Decomposed}
+use Rattle.pass.specs.declared.block.Values.{Values}
 use Prim.Native.Nat.{ℕ, ◌≤◌}
 use mathlib.Core.Bool.{Bool, true, false, cond}
 use mathlib.Core.Path.{◌≡◌, refl, sym, ap, ◌∙◌, subst}
@@ -12,19 +16,13 @@ use lib.Ieee.{Float, le, lt, of_bits}
 use Rattle.loops.specs.Constants.{epsilon}
 use Rattle.pass.specs.Pair.{pair}
 use Rattle.pass.specs.Block.{block_at, eigvals_of}
-use Rattle.pass.specs.declared.block.Eigvals.{Eigvals}
-use Rattle.pass.specs.declared.block.Eigvals.TheVariants.{Real, NotReal}
 use Rattle.refusal.specs.declared.refusal.Refusal.{Refusal}
 use Rattle.refusal.specs.declared.refusal.Refusal.TheVariants.{WrongLength, ComplexEigenvalues}
-use Rattle.refusal.specs.declared.refusal.Checked.{Checked}
-use Rattle.refusal.specs.declared.refusal.Checked.TheVariants.{Passed, Refused}
 use Rattle.refusal.specs.Refusal.{without_place, told_of, checked_told}
 use Rattle.refusal.specs.Checks.{length_check, given_checks}
 use Rattle.refusal.proofs.ChecksInTurn.{next_passes, Only, only_next, only_refuse, only_at}
 use Rattle.refusal.proofs.PassedChecks.{length_passes, matrices_passes, given_passed, only_length, only_given}
 use Rattle.schur.specs.Run.{count_of}
-use Rattle.decomposition.specs.declared.Decomposed.{Decomposed}
-use Rattle.decomposition.specs.declared.Decomposed.TheVariants.{Accepted, Declined}
 use Rattle.decomposition.specs.Checks.{tolerance_fits, budget_fits, all_lengths}
 use Rattle.decomposition.specs.Decomposition.{Outcome, decomposition_of, decomposed_told}
 use Rattle.decomposition.proofs.CheckedArguments.{Sizes, right_passed, all_lent}
@@ -59,10 +57,10 @@ checks_elsewhere lengths n m h =
     only_given _ _ _ _ (record { seven = λ e. omega arith; nine = λ e. omega arith }) (record { seven = λ e. omega arith; nine = λ e. omega arith }) h
     (λ _. record { seven = λ e. omega arith; nine = λ e. omega arith })
 
-two_elsewhere : (v : Eigvals) → AllElsewhere (plain_two v).answer
+two_elsewhere : (v : Option Values) → AllElsewhere (plain_two v).answer
 unfolding plain_two told_of
-two_elsewhere NotReal = record { seven = λ e. omega arith; nine = λ e. omega arith }
-two_elsewhere (Real v) = only_at _ _ _ (λ _. record { seven = λ e. omega arith; nine = λ e. omega arith })
+two_elsewhere None = record { seven = λ e. omega arith; nine = λ e. omega arith }
+two_elsewhere (Some v) = only_at _ _ _ (λ _. record { seven = λ e. omega arith; nine = λ e. omega arith })
 
 pair_elsewhere : (n : ℕ) (t : List Float) → AllElsewhere (pair_check n t)
 unfolding pair_check told_of
@@ -71,8 +69,8 @@ pair_elsewhere n t = only_refuse _ _ ComplexEigenvalues (record { seven = λ e. 
 -- such checks tell no 7 and no 9
 told_elsewhere : {k : ℕ} (c : Checked) → AllElsewhere c → (checked_told c).number ≡ k → Elsewhere k
 unfolding checked_told
-told_elsewhere Passed h e = record { seven = λ f. omega arith; nine = λ f. omega arith }
-told_elsewhere (Refused r) h e = subst Elsewhere e h
+told_elsewhere (Ok u) h e = record { seven = λ f. omega arith; nine = λ f. omega arith }
+told_elsewhere (Err r) h e = subst Elsewhere e h
 
 -- ---- the last check, of what the decomposition answers
 
@@ -80,13 +78,13 @@ told_elsewhere (Refused r) h e = subst Elsewhere e h
 declined_there : {k : ℕ} (a : Decomposed) (n : ℕ) (t : List Float) → (Elsewhere k → ⊥) → (checked_told (complex_checked a n t)).number ≡ k
     → (decomposed_told a).number ≡ k
 unfolding complex_checked checked_told decomposed_told
-declined_there (Accepted c) n t out e = absurd (out (told_elsewhere (pair_check n t) (pair_elsewhere n t) e))
-declined_there (Declined r) n t out e = e
+declined_there (Ok c) n t out e = absurd (out (told_elsewhere (pair_check n t) (pair_elsewhere n t) e))
+declined_there (Err r) n t out e = e
 
 declined_told : (a : Decomposed) (n : ℕ) (t : List Float) → 1 ≤ (decomposed_told a).number → checked_told (complex_checked a n t) ≡ decomposed_told a
 unfolding complex_checked checked_told decomposed_told
-declined_told (Accepted c) n t l = absurd (omega arith)
-declined_told (Declined r) n t l = refl
+declined_told (Ok c) n t l = absurd (omega arith)
+declined_told (Err r) n t l = refl
 
 -- ---- the checks of the decomposition pass where those of the plain entry do
 
@@ -99,7 +97,7 @@ unfolding budget_fits
 bound = refl
 
 -- what is lent for Q plays no part, and for T it is as much as the matrix
-lengths_pass : {n mn vn wn : ℕ} → Sized n mn vn wn → all_lengths (plain_asked n) mn mn 0 wn ≡ Passed
+lengths_pass : {n mn vn wn : ℕ} → Sized n mn vn wn → all_lengths (plain_asked n) mn mn 0 wn ≡ passed
 unfolding all_lengths
 lengths_pass z = next_passes (matrices_passes (record { m = z.square; t = z.square; q = λ e. cc })) (length_passes _ z.room)
 
@@ -111,59 +109,59 @@ module _ (n : ℕ) (m values w : List Float) where
   abbrev count : ℕ
   count = count_of (plain_asked n) m
 
-  lent : all_lengths (plain_asked n) (length m) (length m) 0 (length w) ≡ Passed → Sizes n (length m) (length m) (length w)
+  lent : all_lengths (plain_asked n) (length m) (length m) 0 (length w) ≡ passed → Sizes n (length m) (length m) (length w)
   lent = all_lent (plain_asked n) _ _ 0 _
 
   abbrev answer : Checked
   answer = (plain_of n m values w).answer
 
-  pub plain_passed : checks n m values w ≡ Passed → checks_of (plain_asked n) plain_budget m (pair m []) w ≡ Passed
+  pub plain_passed : checks n m values w ≡ passed → checks_of (plain_asked n) plain_budget m (pair m []) w ≡ passed
   plain_passed h =
       let g = given_passed _ n m h in
       let z = given_sized n _ _ _ m h in
       right_passed (record { some = g.some; order = g.order; lent = lengths_pass z; near = near; bound = bound; entries = g.entries })
 
   -- so the decomposition is what is said of the run
-  ran_is : checks n m values w ≡ Passed → plain_ran n m w ≡ decomposed
+  ran_is : checks n m values w ≡ passed → plain_ran n m w ≡ decomposed
   ran_is h = sym (run_judged _ (plain_asked n) plain_budget m (pair m []) w (plain_passed h))
 
   by_checks : {c : Checked} → checks n m values w ≡ c → plain_placed_of n m values w ≡ plain_begun c n m values w
   unfolding plain_placed_of
   by_checks h = ap (λ c. plain_begun c n m values w) h
 
-  plain_kept : {r : Refusal} → checks n m values w ≡ Refused r → answer ≡ Refused r
+  plain_kept : {r : Refusal} → checks n m values w ≡ Err r → answer ≡ Err r
   unfolding plain_of plain_begun
   plain_kept h = ap (λ p. p.answer) (by_checks h)
 
-  by_order : {b : Bool} → checks n m values w ≡ Passed → eqb n 2 ≡ b
+  by_order : {b : Bool} → checks n m values w ≡ passed → eqb n 2 ≡ b
       → answer ≡ (cond b (plain_two (eigvals_of (block_at 2 0 m))) (plain_run n (plain_ran n m w))).answer
   unfolding plain_of plain_begun left_by plain_read
   by_order h k = ap (λ p. p.answer) (by_checks h) ∙ ap (λ b. (cond b (plain_two (eigvals_of (block_at 2 0 m))) (plain_run n (plain_ran n m w))).answer) k
 
   -- every order but 2
-  pub plain_is : checks n m values w ≡ Passed → eqb n 2 ≡ false → answer ≡ complex_checked decomposed.answer n decomposed.pair.t
+  pub plain_is : checks n m values w ≡ passed → eqb n 2 ≡ false → answer ≡ complex_checked decomposed.answer n decomposed.pair.t
   unfolding plain_run
   plain_is h k = by_order h k ∙ ap (λ o. (plain_run n o).answer) (ran_is h)
 
   -- in place the decomposition's T is left, NaN throughout where it has refused
-  pub placed_is : checks n m values w ≡ Passed → eqb n 2 ≡ false → (plain_placed_of n m values w).t ≡ decomposed.pair.t
+  pub placed_is : checks n m values w ≡ passed → eqb n 2 ≡ false → (plain_placed_of n m values w).t ≡ decomposed.pair.t
   unfolding plain_begun plain_left
   placed_is h k = ap (λ p. p.t) (by_checks h) ∙ ap (λ b. cond b m (plain_ran n m w).pair.t) k ∙ ap (λ o. o.pair.t) (ran_is h)
 
   -- so 7 and 9 are the decomposition's
   pub plain_run_lem : (k : ℕ) → (Elsewhere k → ⊥) → (checked_told answer).number ≡ k
-      → (checks n m values w ≡ Passed) × ((decomposed_told decomposed.answer).number ≡ k)
+      → (checks n m values w ≡ passed) × ((decomposed_told decomposed.answer).number ≡ k)
   plain_run_lem k out e = go (checks n m values w) refl (eqb n 2) refl
     where
       number : {c : Checked} → answer ≡ c → (checked_told c).number ≡ k
       number h = ap (λ c. (checked_told c).number) (sym h) ∙ e
 
       go : (c : Checked) → checks n m values w ≡ c → (b : Bool) → eqb n 2 ≡ b
-          → (checks n m values w ≡ Passed) × ((decomposed_told decomposed.answer).number ≡ k)
-      go (Refused s) h b two =
+          → (checks n m values w ≡ passed) × ((decomposed_told decomposed.answer).number ≡ k)
+      go (Err s) h b two =
           absurd (out (told_elsewhere _ (checks_elsewhere _ n m (lengths_elsewhere n _ _ _)) (number (plain_kept h ∙ sym h))))
-      go Passed h true two = absurd (out (told_elsewhere _ (two_elsewhere _) (number (by_order h two))))
-      go Passed h false two = (h, declined_there decomposed.answer n _ out (number (plain_is h two)))
+      go passed h true two = absurd (out (told_elsewhere _ (two_elsewhere _) (number (by_order h two))))
+      go passed h false two = (h, declined_there decomposed.answer n _ out (number (plain_is h two)))
 
   -- 7: only where the definition's count is 10,000 or more
   pub plain_reached : (checked_told answer).number ≡ 7 → plain_budget ≤ count
@@ -176,7 +174,7 @@ module _ (n : ℕ) (m values w : List Float) where
   unfolding count_of
   two_counts k = let e : n ≡ 2 = eqb-true n 2 k in rw (k, ne_eqb n 1 (λ q. omega arith))
 
-  pub reached_plain : checks n m values w ≡ Passed → plain_budget ≤ count → checked_told answer ≡ without_place 7
+  pub reached_plain : checks n m values w ≡ passed → plain_budget ≤ count → checked_told answer ≡ without_place 7
   reached_plain h l = go (eqb n 2) refl
     where
       go : (b : Bool) → eqb n 2 ≡ b → checked_told answer ≡ without_place 7

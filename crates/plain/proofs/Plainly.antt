@@ -1,4 +1,6 @@
 -- The plain entry, told of the pieces that the code has in hand. Assumes nothing.
+use Rattle.std.specs.Prelude.{Err, Ok, Some}
+use Rattle.refusal.specs.Refusal.{Checked, passed}
 use Prim.Native.Nat.{ℕ}
 use mathlib.Core.Bool.{Bool, true, false, not}
 use mathlib.Core.Path.{◌≡◌, refl, sym, ap, ◌∙◌}
@@ -15,18 +17,14 @@ use Rattle.matrix.specs.Vectors.{filled}
 use Rattle.pass.specs.Pair.{pair}
 use Rattle.pass.specs.Block.{block_at, eigvals_of}
 use Rattle.pass.specs.declared.block.Values.{Values}
-use Rattle.pass.specs.declared.block.Eigvals.TheVariants.{Real}
 use Rattle.schur.specs.Run.{Left, run_fits, ran_of, run_of, work_after}
 use Rattle.refusal.specs.declared.refusal.Refusal.{Refusal}
 use Rattle.refusal.specs.declared.refusal.Refusal.TheVariants.{ResultNotFinite}
-use Rattle.refusal.specs.declared.refusal.Checked.{Checked}
-use Rattle.refusal.specs.declared.refusal.Checked.TheVariants.{Passed, Refused}
 use Rattle.refusal.specs.Refusal.{at, refuse_at, ◌next◌, if_passed}
 use Rattle.refusal.specs.Checks.{order_checks, given_checks}
 use Rattle.refusal.proofs.ChecksInTurn.{next_before}
 use Rattle.refusal.proofs.PassedChecks.{order_then, length_passed, length_then}
 use Rattle.refusal.proofs.Searching.{Sought, sought_none, sought_more}
-use Rattle.decomposition.specs.declared.Decomposed.TheVariants.{Accepted, Declined}
 use Rattle.decomposition.specs.Decomposition.{Outcome, outcome, Settlement, decided, judged}
 use Rattle.decomposition.proofs.CheckedArguments.{sizes_fit}
 use Rattle.eigenvalues.specs.Readers.{pair_check, diagonal, Read, read, left_by}
@@ -37,7 +35,7 @@ use Rattle.plain.specs.Plain.{InPlace, in_place, plain_begun}
 
 -- ---- what the checks of the order and the lengths tell
 
-pub sizes_passed : (n mn vn wn : ℕ) → (order_checks n next plain_lengths n mn vn wn) ≡ Passed → Sized n mn vn wn
+pub sizes_passed : (n mn vn wn : ℕ) → (order_checks n next plain_lengths n mn vn wn) ≡ passed → Sized n mn vn wn
 unfolding plain_lengths
 sizes_passed n mn vn wn h =
     let o = order_then _ _ h in
@@ -46,7 +44,7 @@ sizes_passed n mn vn wn h =
     record { some = o.some; order = o.order; square = m.size; list = v.size; room = length_passed _ _ _ v.behind }
 
 -- the entries stand behind them
-pub given_sized : (n mn vn wn : ℕ) (m : List Float) → given_checks (plain_lengths n mn vn wn) n m ≡ Passed → Sized n mn vn wn
+pub given_sized : (n mn vn wn : ℕ) (m : List Float) → given_checks (plain_lengths n mn vn wn) n m ≡ passed → Sized n mn vn wn
 unfolding given_checks
 given_sized n mn vn wn m h = sizes_passed n mn vn wn (next_before _ _ _ h)
 
@@ -60,7 +58,7 @@ abbrev unfit : Values → ℕ → Bool
 unfit v k = not (is_finite (both_of v ! k))
 
 pub two_first : (v : Values) (values : List Float) → is_finite v.first ≡ false
-    → read (Refused (ResultNotFinite (at 0 0))) values ≡ left_by (plain_two (Real v)) values
+    → read (Err (ResultNotFinite (at 0 0))) values ≡ left_by (plain_two (Some v)) values
 unfolding plain_two left_by refuse_at if_passed
 two_first v values h = rw (← place_here (sought_none (unfit v) 2 0 (omega arith)) (omega arith) (ap not h))
 
@@ -69,12 +67,12 @@ past_first : (v : Values) → is_finite v.first ≡ true → Sought (unfit v) 2 
 past_first v h = sought_more (sought_none (unfit v) 2 0 (omega arith)) (omega arith) (ap not h)
 
 pub two_second : (v : Values) (values : List Float) → is_finite v.first ≡ true → is_finite v.second ≡ false
-    → read (Refused (ResultNotFinite (at 1 1))) values ≡ left_by (plain_two (Real v)) values
+    → read (Err (ResultNotFinite (at 1 1))) values ≡ left_by (plain_two (Some v)) values
 unfolding plain_two left_by refuse_at if_passed
 two_second v values h k = rw (← place_here (past_first v h) (omega arith) (ap not k))
 
 pub two_both : (v : Values) (values out : List Float) → is_finite v.first ≡ true → is_finite v.second ≡ true → out ≡ both_of v
-    → read Passed out ≡ left_by (plain_two (Real v)) values
+    → read passed out ≡ left_by (plain_two (Some v)) values
 unfolding plain_two left_by refuse_at if_passed
 two_both v values out h k e = rw (← place_none (sought_more (past_first v h) (omega arith) (ap not k)) (omega arith), e)
 
@@ -103,11 +101,11 @@ ran_by {l} {s} {w'} n m w fits run end work none =
     let whole : outcome s.answer s.pair w' ≡ plain_ran n m w = rw cleared (ap (λ s. outcome s.answer s.pair (filled zero w)) said) in
     ap (λ q. outcome s.answer (pair s.pair.t q) w') (sym (none_left s.pair.q none)) ∙ whole
 
-pub run_refused : (n : ℕ) (o : Outcome) (r : Refusal) (values : List Float) → o.answer ≡ Declined r → read (Refused r) values ≡ left_by (plain_run n o) values
+pub run_refused : (n : ℕ) (o : Outcome) (r : Refusal) (values : List Float) → o.answer ≡ Err r → read (Err r) values ≡ left_by (plain_run n o) values
 unfolding left_by plain_run complex_checked if_passed
 run_refused n o r values h = rw h
 
-pub run_read : {passes : ℕ} {x : Read} (n : ℕ) (o : Outcome) (t values : List Float) → o.answer ≡ Accepted passes → t ≡ o.pair.t
+pub run_read : {passes : ℕ} {x : Read} (n : ℕ) (o : Outcome) (t values : List Float) → o.answer ≡ Ok passes → t ≡ o.pair.t
     → x ≡ left_by (read (pair_check n t) (diagonal n t)) values → x ≡ left_by (plain_run n o) values
 unfolding left_by plain_run complex_checked
 run_read n o t values h e k = rw (h, ← e) k
@@ -119,18 +117,18 @@ told_by x r t w e l k = ap (λ (r : Read). in_place r.answer x.t r.values x.work
     ∙ ap (λ w. in_place r.answer t r.values w) k
 
 pub begun_two : (x : InPlace) (n : ℕ) (t values w : List Float) → n ≡ 2 → read x.answer x.values ≡ left_by (plain_two (eigvals_of (block_at 2 0 t))) values
-    → x.t ≡ t → x.work ≡ filled zero w → x ≡ plain_begun Passed n t values w
+    → x.t ≡ t → x.work ≡ filled zero w → x ≡ plain_begun passed n t values w
 unfolding plain_begun plain_read plain_left
 begun_two x n t values w h e l k = rw (eq-eqb n 2 h) (told_by x _ _ _ e l k)
 
 pub begun_run : (x : InPlace) (n : ℕ) (t values w : List Float) → n ≢ 2 → read x.answer x.values ≡ left_by (plain_run n (plain_ran n t w)) values
-    → x.t ≡ (plain_ran n t w).pair.t → x.work ≡ filled zero w → x ≡ plain_begun Passed n t values w
+    → x.t ≡ (plain_ran n t w).pair.t → x.work ≡ filled zero w → x ≡ plain_begun passed n t values w
 unfolding plain_begun plain_read plain_left
 begun_run x n t values w h e l k = rw (ne_eqb n 2 h) (told_by x _ _ _ e l k)
 
 -- ---- all of it: c is what the checks have come to
 
-pub begun_kept : {r : Refusal} {c : Checked} (n : ℕ) (t values w : List Float) → c ≡ Refused r → in_place c t values w ≡ plain_begun c n t values w
+pub begun_kept : {r : Refusal} {c : Checked} (n : ℕ) (t values w : List Float) → c ≡ Err r → in_place c t values w ≡ plain_begun c n t values w
 unfolding plain_begun
 begun_kept n t values w h = rw h
 

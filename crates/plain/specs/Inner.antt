@@ -1,9 +1,9 @@
 -- What the inner functions of the plain entry ask and promise. Nothing outside this crate cites it.
+use Rattle.refusal.specs.Refusal.{Checked}
 use Rattle.std.specs.Prelude.{ℕ, ◌≤◌, List, ◌≡◌, Float}
 use Rattle.loops.specs.Constants.{zero}
 use Rattle.matrix.specs.Vectors.{filled}
 use Rattle.pass.specs.Block.{block_at, eigvals_of}
-use Rattle.refusal.specs.declared.refusal.Checked.{Checked}
 use Rattle.eigenvalues.specs.Readers.{read, left_by}
 use Rattle.plain.specs.Plain.{Sized, plain_two, plain_ran, plain_run}
 

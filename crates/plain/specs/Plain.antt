@@ -1,26 +1,23 @@
 -- The plain entry: real eigenvalues alone, with the tolerance 2^-52 and the budget 10,000, and without Q. It works in
 -- place, where the matrix becomes T; a matrix that is kept is copied first.
+use Rattle.std.specs.Prelude.{Err, None, Ok, Option, Some}
+use Rattle.refusal.specs.Refusal.{Checked}
+use Rattle.decomposition.specs.Decomposition.{Decomposed}
 use Rattle.std.specs.Prelude.{ℕ, ◌*◌, ◌≤◌, false, cond, not, ◌≡◌, List, [], ◌∷◌, eqb, length, Float}
 use Rattle.loops.specs.Constants.{zero, epsilon}
 use Rattle.loops.specs.Rounded.{◌!◌}
 use Rattle.scalar.specs.Class.{is_finite}
 use Rattle.matrix.specs.Vectors.{filled}
 use Rattle.pass.specs.declared.block.Values.{Values}
-use Rattle.pass.specs.declared.block.Eigvals.{Eigvals}
-use Rattle.pass.specs.declared.block.Eigvals.TheVariants.{Real, NotReal}
 use Rattle.pass.specs.declared.setting.Setting.{Setting}
 use Rattle.pass.specs.Setting.{setting}
 use Rattle.pass.specs.Block.{block_at, eigvals_of}
 use Rattle.pass.specs.Pair.{pair}
 use Rattle.schur.specs.Run.{ran_of}
 use Rattle.refusal.specs.declared.refusal.Refusal.TheVariants.{WrongLength, ResultNotFinite, ComplexEigenvalues}
-use Rattle.refusal.specs.declared.refusal.Checked.{Checked}
-use Rattle.refusal.specs.declared.refusal.Checked.TheVariants.{Passed, Refused}
 use Rattle.refusal.specs.Refusal.{refuse_at, ◌next◌}
 use Rattle.refusal.specs.Search.{first_on_diagonal}
 use Rattle.refusal.specs.Checks.{order_checks, length_check, given_checks}
-use Rattle.decomposition.specs.declared.Decomposed.{Decomposed}
-use Rattle.decomposition.specs.declared.Decomposed.TheVariants.{Accepted, Declined}
 use Rattle.decomposition.specs.Decomposition.{Outcome, judged}
 use Rattle.eigenvalues.specs.Readers.{pair_check, diagonal, Read, read, left_by}
 
@@ -43,9 +40,9 @@ pub record Sized (n mn vn wn : ℕ) : Type 0 where
 abbrev pub both_of : Values → List Float
 both_of v = v.first ∷ v.second ∷ []
 
-unfoldable pub plain_two : Eigvals → Read
-plain_two NotReal = read (Refused ComplexEigenvalues) []
-plain_two (Real v) = read (refuse_at ResultNotFinite (first_on_diagonal (λ k. not (is_finite (both_of v ! k))) 2)) (both_of v)
+unfoldable pub plain_two : Option Values → Read
+plain_two None = read (Err ComplexEigenvalues) []
+plain_two (Some v) = read (refuse_at ResultNotFinite (first_on_diagonal (λ k. not (is_finite (both_of v ! k))) 2)) (both_of v)
 
 -- ---- every other order: the decomposition without Q, then the real reader's last check
 
@@ -60,8 +57,8 @@ abbrev pub plain_ran : ℕ → (m w : List Float) → Outcome
 plain_ran n m w = judged (plain_asked n) (ran_of (plain_asked n) plain_budget (pair m []) w) w
 
 unfoldable pub complex_checked : Decomposed → ℕ → List Float → Checked
-complex_checked (Accepted passes) n t = pair_check n t
-complex_checked (Declined r) n t = Refused r
+complex_checked (Ok passes) n t = pair_check n t
+complex_checked (Err r) n t = Err r
 
 unfoldable pub plain_run : ℕ → Outcome → Read
 plain_run n o = read (complex_checked o.answer n o.pair.t) (diagonal n o.pair.t)
@@ -91,9 +88,9 @@ in_place answer t values w = record { answer = answer; t = t; values = values; w
 
 -- refused before the run: nothing is touched; after it, the workspace is +0 throughout
 unfoldable pub plain_begun : Checked → ℕ → (t values w : List Float) → InPlace
-plain_begun Passed n t values w =
+plain_begun (Ok u) n t values w =
     let r = left_by (plain_read n t w) values in in_place r.answer (plain_left n t w) r.values (filled zero w)
-plain_begun (Refused r) n t values w = in_place (Refused r) t values w
+plain_begun (Err r) n t values w = in_place (Err r) t values w
 
 unfoldable pub plain_placed_of : ℕ → (t values w : List Float) → InPlace
 plain_placed_of n t values w =

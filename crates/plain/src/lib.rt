@@ -3,12 +3,10 @@
 #![tactic(auto)]
 
 ghost use Rattle.std.specs.Prelude.{◌≡◌, true, [], length, ◌*◌, ◌≤◌};
-ghost use Rattle.pass.specs.declared.block.Eigvals.TheVariants.{Real};
 ghost use Rattle.pass.specs.Block.{block_at, eigvals_of};
 ghost use Rattle.pass.specs.Pair.{pair};
 ghost use Rattle.schur.specs.Run.{run_fits};
-ghost use Rattle.refusal.specs.declared.refusal.Checked.TheVariants.{Passed};
-ghost use Rattle.refusal.specs.Refusal.{◌next◌};
+ghost use Rattle.refusal.specs.Refusal.{passed, ◌next◌};
 ghost use Rattle.refusal.specs.Checks.{order_checks, given_checks};
 ghost use Rattle.decomposition.specs.Decomposition.{outcome};
 ghost use Rattle.eigenvalues.specs.Readers.{read, left_by};
@@ -16,62 +14,49 @@ ghost use Rattle.plain.specs.Plain.{plain_lengths, Sized, plain_two, plain_ran, 
 ghost use Rattle.plain.specs.Plain.{plain_placed_of, plain_finite_of, plain, kept, plain_of};
 ghost use Rattle.plain.specs.Inner.{SizedTo, TwoDone, RunDone};
 
-use decomposition::Decomposed;
-use pass::{Block, Eigvals, Setting, Values};
-use refusal::{Checked, Place, Refusal};
+use pass::{Block, Setting, Values};
+use refusal::{Place, Refusal};
 
 // The matrix, the list of eigenvalues, the workspace.
-fn check_lengths(n: usize, mn: usize, vn: usize, wn: usize) -> Checked
+fn check_lengths(n: usize, mn: usize, vn: usize, wn: usize) -> Result<(), Refusal>
     requires { n ≤ 64 }
     ensures { result ≡ plain_lengths n mn vn wn }
 {
-    let square = refusal::check_length(mn, n * n, Refusal::WrongLength);
-    let Checked::Passed = square else {
-        return square;
-    };
-    let list = refusal::check_length(vn, n, Refusal::WrongLength);
-    let Checked::Passed = list else {
-        return list;
-    };
+    refusal::check_length(mn, n * n, Refusal::WrongLength)?;
+    refusal::check_length(vn, n, Refusal::WrongLength)?;
     refusal::check_length(wn, 2 * n, Refusal::WrongLength)
 }
 
 // The order before them.
-fn check_sizes(n: usize, mn: usize, vn: usize, wn: usize) -> Checked
+fn check_sizes(n: usize, mn: usize, vn: usize, wn: usize) -> Result<(), Refusal>
     ensures { result ≡ (order_checks n next plain_lengths n mn vn wn) }
 {
-    let order = refusal::check_order(n);
-    let Checked::Passed = order else {
-        return order;
-    };
+    refusal::check_order(n)?;
     check_lengths(n, mn, vn, wn)
 }
 
 // And the entries behind them: all the arguments, in the order of document 01's table.
-fn check_arguments(m: &[f64], n: usize, vn: usize, wn: usize) -> Checked
+fn check_arguments(m: &[f64], n: usize, vn: usize, wn: usize) -> Result<(), Refusal>
     ensures { result ≡ given_checks (plain_lengths n (length m.now) vn wn) n m.now }
 {
-    let sizes = check_sizes(n, m.len(), vn, wn);
-    let Checked::Passed = sizes else {
-        return sizes;
-    };
+    check_sizes(n, m.len(), vn, wn)?;
     refusal::check_entries(m, n)
 }
 
 // Two eigenvalues, if both are finite.
-fn two_values(v: Values, values: &mut [f64]) -> Checked
+fn two_values(v: Values, values: &mut [f64]) -> Result<(), Refusal>
     requires { length values.old ≡ 2 }
-    ensures { read result values.new ≡ left_by (plain_two (Real v)) values.old }
+    ensures { read result values.new ≡ left_by (plain_two (Some v)) values.old }
 {
     if !scalar::is_finite(v.first) {
-        return Checked::Refused(Refusal::ResultNotFinite(Place { row: 0, col: 0 }));
+        return Err(Refusal::ResultNotFinite(Place { row: 0, col: 0 }));
     }
     if !scalar::is_finite(v.second) {
-        return Checked::Refused(Refusal::ResultNotFinite(Place { row: 1, col: 1 }));
+        return Err(Refusal::ResultNotFinite(Place { row: 1, col: 1 }));
     }
     values[0] = v.first;
     values[1] = v.second;
-    Checked::Passed
+    Ok(())
 }
 
 // A matrix of order 2 as a block.
@@ -88,19 +73,19 @@ fn block_of(m: &[f64]) -> Block
 }
 
 // The eigenvalues of a matrix of order 2: the larger one first.
-fn two_of(m: &[f64], values: &mut [f64]) -> Checked
+fn two_of(m: &[f64], values: &mut [f64]) -> Result<(), Refusal>
     requires { (length m.now ≡ 4) × (length values.old ≡ 2) }
     ensures { read result values.new
         ≡ left_by (plain_two (eigvals_of (block_at 2 0 m.now))) values.old }
 {
-    let Eigvals::Real(v) = pass::compute_2x2_eigvals(block_of(m)) else {
-        return Checked::Refused(Refusal::ComplexEigenvalues);
+    let Some(v) = pass::compute_2x2_eigvals(block_of(m)) else {
+        return Err(Refusal::ComplexEigenvalues);
     };
     two_values(v, values)
 }
 
 // Order 2: no run, so that the matrix is only read; the workspace is cleared as a run clears it.
-fn plain_two(m: &[f64], values: &mut [f64], work: &mut [f64]) -> Checked
+fn plain_two(m: &[f64], values: &mut [f64], work: &mut [f64]) -> Result<(), Refusal>
     requires { (length m.now ≡ 4) × (length values.old ≡ 2) }
     ensures { TwoDone m.now values.old work.old result values.new
         work.new }
@@ -110,7 +95,7 @@ fn plain_two(m: &[f64], values: &mut [f64], work: &mut [f64]) -> Checked
 }
 
 // The decomposition without Q, in place.
-fn decompose(t: &mut [f64], n: usize, work: &mut [f64]) -> Decomposed
+fn decompose(t: &mut [f64], n: usize, work: &mut [f64]) -> Result<u64, Refusal>
     requires { run_fits n (length t.old) (length work.old) ≡ true }
     ensures { outcome result (pair t.new []) work.new
         ≡ plain_ran n t.old work.old }
@@ -126,22 +111,22 @@ fn decompose(t: &mut [f64], n: usize, work: &mut [f64]) -> Decomposed
 }
 
 // Every other order: the diagonal of T, if it is accepted and no block of two stands.
-fn plain_run(t: &mut [f64], n: usize, values: &mut [f64], work: &mut [f64]) -> Checked
+fn plain_run(t: &mut [f64], n: usize, values: &mut [f64], work: &mut [f64]) -> Result<(), Refusal>
     requires { Sized n (length t.old) (length values.old) (length work.old) }
     ensures { RunDone n t.old values.old work.old result t.new
         values.new work.new }
 {
     match decompose(t, n, work) {
-        Decomposed::Declined(r) => Checked::Refused(r),
-        Decomposed::Accepted(_) => eigenvalues::diagonal_if_real(t, n, values),
+        Err(r) => Err(r),
+        Ok(_) => eigenvalues::diagonal_if_real(t, n, values),
     }
 }
 
 // The arguments have passed.
-fn plain_any(t: &mut [f64], n: usize, values: &mut [f64], work: &mut [f64]) -> Checked
+fn plain_any(t: &mut [f64], n: usize, values: &mut [f64], work: &mut [f64]) -> Result<(), Refusal>
     requires { Sized n (length t.old) (length values.old) (length work.old) }
     ensures { in_place result t.new values.new work.new
-        ≡ plain_begun Passed n t.old values.old work.old }
+        ≡ plain_begun passed n t.old values.old work.old }
 {
     if n == 2 {
         return plain_two(t, values, work);
@@ -156,14 +141,11 @@ pub fn plain_eigenvalues_in_place(
     n: usize,
     values: &mut [f64],
     work: &mut [f64],
-) -> Checked
+) -> Result<(), Refusal>
     ensures { in_place result t.new values.new work.new
         ≡ plain_placed_of n t.old values.old work.old }
 {
-    let checked = check_arguments(t, n, values.len(), work.len());
-    let Checked::Passed = checked else {
-        return checked;
-    };
+    check_arguments(t, n, values.len(), work.len())?;
     plain_any(t, n, values, work)
 }
 
@@ -173,69 +155,66 @@ pub fn plain_eigenvalues_of_finite(
     n: usize,
     values: &mut [f64],
     work: &mut [f64],
-) -> Checked
+) -> Result<(), Refusal>
     ensures { in_place result t.new values.new work.new
         ≡ plain_finite_of n t.old values.old work.old }
 {
-    let checked = check_sizes(n, t.len(), values.len(), work.len());
-    let Checked::Passed = checked else {
-        return checked;
-    };
+    check_sizes(n, t.len(), values.len(), work.len())?;
     plain_any(t, n, values, work)
 }
 
 // A matrix that is kept: t becomes a copy of it.
-fn plain_copied(m: &[f64], n: usize, values: &mut [f64], t: &mut [f64], work: &mut [f64]) -> Checked
+fn plain_copied(m: &[f64], n: usize, values: &mut [f64], t: &mut [f64], work: &mut [f64]) -> Result<(), Refusal>
     requires { Sized n (length m.now) (length values.old) (length work.old) × (length t.old ≡ n * n) }
     ensures { plain result values.new work.new
-        ≡ kept (plain_begun Passed n m.now values.old work.old) }
+        ≡ kept (plain_begun passed n m.now values.old work.old) }
 {
     matrix::copy_from(t, m);
     plain_any(t, n, values, work)
 }
 
 // The room is cut to size.
-fn plain_in(m: &[f64], n: usize, values: &mut [f64], room: &mut [f64], work: &mut [f64]) -> Checked
+fn plain_in(m: &[f64], n: usize, values: &mut [f64], room: &mut [f64], work: &mut [f64]) -> Result<(), Refusal>
     requires { Sized n (length m.now) (length values.old) (length work.old) × (n * n ≤ length room.old) }
     ensures { plain result values.new work.new
-        ≡ kept (plain_begun Passed n m.now values.old work.old) }
+        ≡ kept (plain_begun passed n m.now values.old work.old) }
 {
     plain_copied(m, n, values, &mut room[..n * n], work)
 }
 
 // Small orders do not pay for clearing a large room.
-fn plain_8(m: &[f64], n: usize, values: &mut [f64], work: &mut [f64]) -> Checked
+fn plain_8(m: &[f64], n: usize, values: &mut [f64], work: &mut [f64]) -> Result<(), Refusal>
     requires { SizedTo 8 n (length m.now) (length values.old) (length work.old) }
     ensures { plain result values.new work.new
-        ≡ kept (plain_begun Passed n m.now values.old work.old) }
+        ≡ kept (plain_begun passed n m.now values.old work.old) }
 {
     let mut room = [0.0f64; 64];
     plain_in(m, n, values, &mut room, work)
 }
 
-fn plain_32(m: &[f64], n: usize, values: &mut [f64], work: &mut [f64]) -> Checked
+fn plain_32(m: &[f64], n: usize, values: &mut [f64], work: &mut [f64]) -> Result<(), Refusal>
     requires { SizedTo 32 n (length m.now) (length values.old) (length work.old) }
     ensures { plain result values.new work.new
-        ≡ kept (plain_begun Passed n m.now values.old work.old) }
+        ≡ kept (plain_begun passed n m.now values.old work.old) }
 {
     let mut room = [0.0f64; 1024];
     plain_in(m, n, values, &mut room, work)
 }
 
-fn plain_64(m: &[f64], n: usize, values: &mut [f64], work: &mut [f64]) -> Checked
+fn plain_64(m: &[f64], n: usize, values: &mut [f64], work: &mut [f64]) -> Result<(), Refusal>
     requires { Sized n (length m.now) (length values.old) (length work.old) }
     ensures { plain result values.new work.new
-        ≡ kept (plain_begun Passed n m.now values.old work.old) }
+        ≡ kept (plain_begun passed n m.now values.old work.old) }
 {
     let mut room = [0.0f64; 4096];
     plain_in(m, n, values, &mut room, work)
 }
 
 // Every order; 2 needs no room.
-fn plain_kept(m: &[f64], n: usize, values: &mut [f64], work: &mut [f64]) -> Checked
+fn plain_kept(m: &[f64], n: usize, values: &mut [f64], work: &mut [f64]) -> Result<(), Refusal>
     requires { Sized n (length m.now) (length values.old) (length work.old) }
     ensures { plain result values.new work.new
-        ≡ kept (plain_begun Passed n m.now values.old work.old) }
+        ≡ kept (plain_begun passed n m.now values.old work.old) }
 {
     if n == 2 {
         return plain_two(m, values, work);
@@ -250,13 +229,10 @@ fn plain_kept(m: &[f64], n: usize, values: &mut [f64], work: &mut [f64]) -> Chec
 }
 
 // The same for a matrix that is kept: a copy of it is worked on in place.
-pub fn plain_eigenvalues(m: &[f64], n: usize, values: &mut [f64], work: &mut [f64]) -> Checked
+pub fn plain_eigenvalues(m: &[f64], n: usize, values: &mut [f64], work: &mut [f64]) -> Result<(), Refusal>
     ensures { plain result values.new work.new
         ≡ plain_of n m.now values.old work.old }
 {
-    let checked = check_arguments(m, n, values.len(), work.len());
-    let Checked::Passed = checked else {
-        return checked;
-    };
+    check_arguments(m, n, values.len(), work.len())?;
     plain_kept(m, n, values, work)
 }

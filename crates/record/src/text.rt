@@ -3,24 +3,22 @@ ghost use Rattle.std.specs.Prelude.{◌≡◌, ◌+◌, ◌≤◌, length, repli
 ghost use Rattle.io.specs.Counts.{IsPrefixLen};
 ghost use Rattle.pass.specs.Pair.{pair};
 ghost use Rattle.words.specs.Floats.{floats_of};
-ghost use Rattle.decomposition.specs.declared.Decomposed.TheVariants.{Accepted};
 ghost use Rattle.decomposition.specs.Decomposition.{outcome};
 ghost use Rattle.record.specs.Page.{page, printed, Put};
 ghost use Rattle.record.specs.Lent.{EigenvaluesLent, PairLent, RoomsLent, RecordLent};
 ghost use Rattle.record.specs.Answer.{eigenvalues_text, read_text, decomposed_text, decomposed, matrix_text, text_of};
 
 use crate::lines::{put_eigenvalues, put_matrix, put_not_read, put_passes, put_refused};
-use decomposition::Decomposed;
-use header::{Examined, Header};
+use header::Header;
 use pass::Setting;
-use refusal::Checked;
+use refusal::Refusal;
 
 // What the complex reader has answered.
 fn put_answer(
     text: &mut [u8],
     at: usize,
     n: usize,
-    checked: Checked,
+    checked: Result<(), Refusal>,
     re: &[f64],
     im: &[f64],
 ) -> usize
@@ -30,8 +28,8 @@ fn put_answer(
         (page result text.new) }
 {
     match checked {
-        Checked::Passed => put_eigenvalues(text, at, n, re, im),
-        Checked::Refused(r) => put_not_read(text, at, r),
+        Ok(()) => put_eigenvalues(text, at, n, re, im),
+        Err(r) => put_not_read(text, at, r),
     }
 }
 
@@ -53,7 +51,7 @@ fn put_read(text: &mut [u8], at: usize, n: usize, t: &[f64]) -> usize
 // An accepted decomposition.
 fn put_accepted(text: &mut [u8], n: usize, passes: u64, t: &[f64], q: &[f64]) -> usize
     requires { PairLent n text.old (pair t.now q.now) }
-    ensures { Put (decomposed_text n (Accepted passes) (pair t.now q.now)) 65536
+    ensures { Put (decomposed_text n (Ok passes) (pair t.now q.now)) 65536
         (page 0 text.old)
         (page result text.new) }
 {
@@ -64,15 +62,15 @@ fn put_accepted(text: &mut [u8], n: usize, passes: u64, t: &[f64], q: &[f64]) ->
 }
 
 // What the decomposition has answered, and left as T and Q.
-fn put_decomposed(text: &mut [u8], n: usize, answer: Decomposed, t: &[f64], q: &[f64]) -> usize
+fn put_decomposed(text: &mut [u8], n: usize, answer: Result<u64, Refusal>, t: &[f64], q: &[f64]) -> usize
     requires { PairLent n text.old (pair t.now q.now) }
     ensures { Put (decomposed_text n answer (pair t.now q.now)) 65536
         (page 0 text.old)
         (page result text.new) }
 {
     match answer {
-        Decomposed::Accepted(passes) => put_accepted(text, n, passes, t, q),
-        Decomposed::Declined(r) => put_refused(text, 0, r),
+        Ok(passes) => put_accepted(text, n, passes, t, q),
+        Err(r) => put_refused(text, 0, r),
     }
 }
 
@@ -83,7 +81,7 @@ fn decompose(
     t: &mut [f64],
     q: &mut [f64],
     work: &mut [f64],
-) -> Decomposed
+) -> Result<u64, Refusal>
     requires { RoomsLent h.order entries.now t.old q.old work.old }
     ensures { outcome result (pair t.new q.new) work.new
         ≡ decomposed h (floats_of entries.now) }
@@ -134,7 +132,7 @@ pub fn answer(input: &[u8], text: &mut [u8]) -> usize
         return 0;
     }
     match header::examine(input) {
-        Examined::Unfit(r) => put_refused(text, 0, r),
-        Examined::Fit(h) => put_passed(text, h, &input[20..]),
+        Err(r) => put_refused(text, 0, r),
+        Ok(h) => put_passed(text, h, &input[20..]),
     }
 }

@@ -1,97 +1,95 @@
 -- Checks in turn: what follows where all have passed, and which refusals they may come to. Assumes nothing.
+use Rattle.std.specs.Prelude.{Err, None, Ok, Option, Some}
+use Rattle.refusal.specs.Refusal.{Checked, passed}
 use mathlib.Core.Bool.{Bool, true, false}
 use mathlib.Core.Path.{◌≡◌, refl, sym, subst, ◌∙◌}
 use Rattle.refusal.specs.declared.refusal.Place.{Place}
 use Rattle.refusal.specs.declared.refusal.Refusal.{Refusal}
-use Rattle.refusal.specs.declared.refusal.Checked.{Checked}
-use Rattle.refusal.specs.declared.refusal.Checked.TheVariants.{Passed, Refused}
-use Rattle.refusal.specs.declared.search.Search.{Search}
-use Rattle.refusal.specs.declared.search.Search.TheVariants.{At, Nowhere}
 use Rattle.refusal.specs.Refusal.{refuse, refuse_at, ◌next◌}
 
 abbrev IsRefused : Checked → Type 0
-IsRefused Passed = ⊥
-IsRefused (Refused r) = Unit {0}
+IsRefused (Ok u) = ⊥
+IsRefused (Err r) = Unit {0}
 
-pub refused_not_passed : (r : Refusal) → Refused r ≡ Passed → ⊥
+pub refused_not_passed : (r : Refusal) → Err r ≡ passed → ⊥
 refused_not_passed r e = subst IsRefused e tt
 
-pub next_passed : (c d : Checked) → (c next d) ≡ Passed → (c ≡ Passed) × (d ≡ Passed)
+pub next_passed : (c d : Checked) → (c next d) ≡ passed → (c ≡ passed) × (d ≡ passed)
 unfolding ◌next◌
-next_passed Passed d h = (refl, h)
-next_passed (Refused r) d h = absurd (refused_not_passed r h)
+next_passed (Ok u) d h = (refl, h)
+next_passed (Err r) d h = absurd (refused_not_passed r h)
 
 -- the last may be left out
-pub next_before : (c d e : Checked) → (c next d next e) ≡ Passed → (c next d) ≡ Passed
+pub next_before : (c d e : Checked) → (c next d next e) ≡ passed → (c next d) ≡ passed
 unfolding ◌next◌
-next_before Passed d e h = (next_passed d e h).0
-next_before (Refused r) d e h = h
+next_before (Ok u) d e h = (next_passed d e h).0
+next_before (Err r) d e h = h
 
-pub next_passes : {c d : Checked} → c ≡ Passed → d ≡ Passed → (c next d) ≡ Passed
+pub next_passes : {c d : Checked} → c ≡ passed → d ≡ passed → (c next d) ≡ passed
 unfolding ◌next◌
 next_passes h k = rw h k
 
 -- the first that refuses decides
-pub next_refused : {r : Refusal} (c d : Checked) → c ≡ Refused r → (c next d) ≡ Refused r
+pub next_refused : {r : Refusal} (c d : Checked) → c ≡ Err r → (c next d) ≡ Err r
 unfolding ◌next◌
 next_refused c d h = rw h
 
 -- In code: a check has come to x, which is what c says. If it refuses, that is what c and all behind it come to; if it passes, they come to what is left.
-pub next_first : {r : Refusal} {x c : Checked} (d : Checked) → x ≡ c → x ≡ Refused r → x ≡ (c next d)
+pub next_first : {r : Refusal} {x c : Checked} (d : Checked) → x ≡ c → x ≡ Err r → x ≡ (c next d)
 next_first {x = x} {c = c} d e h = h ∙ sym (next_refused c d (sym e ∙ h))
 
-pub next_then : {x y c d : Checked} → x ≡ c → x ≡ Passed → y ≡ d → y ≡ (c next d)
+pub next_then : {x y c d : Checked} → x ≡ c → x ≡ passed → y ≡ d → y ≡ (c next d)
 unfolding ◌next◌
 next_then e h k = rw (← e, h) k
 
 -- grouped in another way
 pub next_assoc : (a b c : Checked) → ((a next b) next c) ≡ (a next (b next c))
 unfolding ◌next◌
-next_assoc Passed b c = refl
-next_assoc (Refused r) b c = refl
+next_assoc (Ok u) b c = refl
+next_assoc (Err r) b c = refl
 
-pub next_on : (c d : Checked) → c ≡ Passed → (c next d) ≡ d
+pub next_on : (c d : Checked) → c ≡ passed → (c next d) ≡ d
 unfolding ◌next◌
 next_on c d h = rw h
 
-pub refuse_passed : (fault : Bool) (r : Refusal) → refuse fault r ≡ Passed → fault ≡ false
+pub refuse_passed : (fault : Bool) (r : Refusal) → refuse fault r ≡ passed → fault ≡ false
 unfolding refuse
 refuse_passed true r h = absurd (refused_not_passed r h)
 refuse_passed false r h = refl
 
-pub refuse_refused : {s : Refusal} (fault : Bool) (r : Refusal) → refuse fault r ≡ Refused s → fault ≡ true
+pub refuse_refused : {s : Refusal} (fault : Bool) (r : Refusal) → refuse fault r ≡ Err s → fault ≡ true
 unfolding refuse
 refuse_refused true r h = refl
 refuse_refused false r h = cc
 
-pub refuse_at_passed : (r : Place → Refusal) (s : Search) → refuse_at r s ≡ Passed → s ≡ Nowhere
+pub refuse_at_passed : (r : Place → Refusal) (s : Option Place) → refuse_at r s ≡ passed → s ≡ None
 unfolding refuse_at
-refuse_at_passed r (At p) h = absurd (refused_not_passed (r p) h)
-refuse_at_passed r Nowhere h = refl
+refuse_at_passed r (Some p) h = absurd (refused_not_passed (r p) h)
+refuse_at_passed r None h = refl
 
 -- ---- P holds of every refusal that checks come to
 
 abbrev pub Only : (Refusal → Type 0) → Checked → Type 0
-Only P Passed = Unit {0}
-Only P (Refused r) = P r
+Only P (Ok u) = Unit {0}
+Only P (Err r) = P r
 
 pub only_next : (P : Refusal → Type 0) (c d : Checked) → Only P c → Only P d → Only P (c next d)
 unfolding ◌next◌
-only_next P Passed d h k = k
-only_next P (Refused r) d h k = h
+only_next P (Ok u) d h k = k
+only_next P (Err r) d h k = h
 
 pub only_refuse : (P : Refusal → Type 0) (fault : Bool) (r : Refusal) → P r → Only P (refuse fault r)
 unfolding refuse
 only_refuse P true r h = h
 only_refuse P false r h = tt
 
-pub only_at : (P : Refusal → Type 0) (f : Place → Refusal) (s : Search) → ((p : Place) → P (f p)) → Only P (refuse_at f s)
+pub only_at : (P : Refusal → Type 0) (f : Place → Refusal) (s : Option Place) → ((p : Place) → P (f p)) → Only P (refuse_at f s)
 unfolding refuse_at
-only_at P f (At p) h = h p
-only_at P f Nowhere h = tt
+only_at P f (Some p) h = h p
+only_at P f None h = tt
 
 -- a refusal that the first never comes to is the second's
-pub next_second : {r : Refusal} (P : Refusal → Type 0) (c d : Checked) → Only P c → (P r → ⊥) → (c next d) ≡ Refused r → (c ≡ Passed) × (d ≡ Refused r)
+pub next_second : {r : Refusal} (P : Refusal → Type 0) (c d : Checked) → Only P c → (P r → ⊥) → (c next d) ≡ Err r → (c ≡ passed) × (d ≡ Err r)
 unfolding ◌next◌
-next_second P Passed d h out e = (refl, e)
-next_second {r} P (Refused s) d h out e = let same : s ≡ r = cc in absurd (out (subst P same h))
+next_second P (Ok u) d h out e = (refl, e)
+next_second {r} P (Err s) d h out e = let same : s ≡ r = cc in absurd (out (subst P same h))

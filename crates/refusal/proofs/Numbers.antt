@@ -1,4 +1,6 @@
 -- The numbers of document 01's table: number and place tell the refusal. Assumes nothing.
+use Rattle.std.specs.Prelude.{Err}
+use Rattle.refusal.specs.Refusal.{Checked, passed}
 use Prim.Native.Nat.{ℕ, ◌≤◌}
 use mathlib.Core.Bool.{cond}
 use mathlib.Core.Path.{◌≡◌, refl, sym, ap, ◌∙◌}
@@ -10,8 +12,6 @@ use Rattle.refusal.specs.declared.refusal.Refusal.TheVariants.{OrderZero, OrderT
 use Rattle.refusal.specs.declared.refusal.Refusal.TheVariants.{BudgetReached, ResultNotFinite, ShapeSpoiled, ComplexEigenvalues, BlockNotComplex}
 use Rattle.refusal.specs.declared.refusal.Refusal.TheVariants.{InputCutShort, UnknownKind, InputLengthWrong}
 use Rattle.refusal.specs.declared.refusal.Told.{Told}
-use Rattle.refusal.specs.declared.refusal.Checked.{Checked}
-use Rattle.refusal.specs.declared.refusal.Checked.TheVariants.{Passed, Refused}
 use Rattle.refusal.specs.Refusal.{at, told_of, checked_told}
 
 -- ---- the refusal by its number and its place
@@ -85,12 +85,12 @@ told_range InputLengthWrong = (omega arith, omega arith)
 
 -- ---- of checks
 
-pub none_told : {c : Checked} → (checked_told c).number ≡ 0 → c ≡ Passed
+pub none_told : {c : Checked} → (checked_told c).number ≡ 0 → c ≡ passed
 unfolding checked_told
-none_told {c = Passed} e = refl
-none_told {c = Refused r} e = let some = (told_range r).0 in absurd (omega arith)
+none_told {c = passed} e = refl
+none_told {c = Err r} e = let some = (told_range r).0 in absurd (omega arith)
 
-pub ten_told : {c : Checked} → (checked_told c).number ≡ 10 → c ≡ Refused ComplexEigenvalues
+pub ten_told : {c : Checked} → (checked_told c).number ≡ 10 → c ≡ Err ComplexEigenvalues
 unfolding checked_told
-ten_told {c = Passed} e = absurd (omega arith)
-ten_told {c = Refused r} e = ap Refused (told_ten e)
+ten_told {c = passed} e = absurd (omega arith)
+ten_told {c = Err r} e = ap Err (told_ten e)

@@ -1,4 +1,6 @@
 -- The checks that several entries make: what each tells where it has passed, and that it passes where that holds. Assumes nothing.
+use Rattle.std.specs.Prelude.{None}
+use Rattle.refusal.specs.Refusal.{Checked, passed}
 use Prim.Native.Nat.{ℕ, ◌≤◌}
 use mathlib.Core.Bool.{Bool, true, false}
 use mathlib.Core.Path.{◌≡◌, refl}
@@ -9,9 +11,6 @@ use lib.Ieee.{Float}
 use Rattle.refusal.specs.declared.refusal.Place.{Place}
 use Rattle.refusal.specs.declared.refusal.Refusal.{Refusal}
 use Rattle.refusal.specs.declared.refusal.Refusal.TheVariants.{OrderZero, OrderTooLarge, EntryNotFinite}
-use Rattle.refusal.specs.declared.refusal.Checked.{Checked}
-use Rattle.refusal.specs.declared.refusal.Checked.TheVariants.{Passed}
-use Rattle.refusal.specs.declared.search.Search.TheVariants.{Nowhere}
 use Rattle.refusal.specs.Refusal.{refuse, refuse_at, ◌next◌}
 use Rattle.refusal.specs.Search.{first_not_finite}
 use Rattle.refusal.specs.Checks.{order_checks, length_check, only_if, lent_lengths, matrix_lengths, entry_checks, given_checks}
@@ -23,7 +22,7 @@ pub record Ordered (n : ℕ) : Type 0 where
   pub some : 1 ≤ n
   pub order : n ≤ 64
 
-pub order_passed : (n : ℕ) → order_checks n ≡ Passed → Ordered n
+pub order_passed : (n : ℕ) → order_checks n ≡ passed → Ordered n
 unfolding order_checks
 order_passed n h =
     let a = next_passed _ _ h in
@@ -34,42 +33,42 @@ order_passed n h =
 pub record OrderThen (n : ℕ) (others : Checked) : Type 0 where
   pub some : 1 ≤ n
   pub order : n ≤ 64
-  pub behind : others ≡ Passed
+  pub behind : others ≡ passed
 
-pub order_then : (n : ℕ) (others : Checked) → (order_checks n next others) ≡ Passed → OrderThen n others
+pub order_then : (n : ℕ) (others : Checked) → (order_checks n next others) ≡ passed → OrderThen n others
 order_then n others h =
     let a = next_passed _ _ h in
     let o = order_passed n a.0 in
     record { some = o.some; order = o.order; behind = a.1 }
 
-pub order_passes : {n : ℕ} → 1 ≤ n → n ≤ 64 → order_checks n ≡ Passed
+pub order_passes : {n : ℕ} → 1 ≤ n → n ≤ 64 → order_checks n ≡ passed
 unfolding order_checks refuse ◌next◌
 order_passes {n} some order = rw (ne_eqb n 0 (λ e. omega arith), le-ltb 64 n order)
 
 -- ---- lengths
 
-pub length_passed : (fault : Refusal) (has needs : ℕ) → length_check fault has needs ≡ Passed → has ≡ needs
+pub length_passed : (fault : Refusal) (has needs : ℕ) → length_check fault has needs ≡ passed → has ≡ needs
 unfolding length_check
 length_passed fault has needs h = eqb-true has needs (not-false _ (refuse_passed _ _ h))
 
 -- with what is checked behind it
 pub record LengthThen (has needs : ℕ) (others : Checked) : Type 0 where
   pub size : has ≡ needs
-  pub behind : others ≡ Passed
+  pub behind : others ≡ passed
 
-pub length_then : (fault : Refusal) (has needs : ℕ) (others : Checked) → (length_check fault has needs next others) ≡ Passed → LengthThen has needs others
+pub length_then : (fault : Refusal) (has needs : ℕ) (others : Checked) → (length_check fault has needs next others) ≡ passed → LengthThen has needs others
 length_then fault has needs others h = let a = next_passed _ _ h in record { size = length_passed fault has needs a.0; behind = a.1 }
 
-pub length_passes : (fault : Refusal) {has needs : ℕ} → has ≡ needs → length_check fault has needs ≡ Passed
+pub length_passes : (fault : Refusal) {has needs : ℕ} → has ≡ needs → length_check fault has needs ≡ passed
 unfolding length_check refuse
 length_passes fault {has} {needs} e = rw (eq-eqb has needs e)
 
 -- a check that is not asked for passes
-pub asked_passed : (asked : Bool) (c : Checked) → only_if asked c ≡ Passed → asked ≡ true → c ≡ Passed
+pub asked_passed : (asked : Bool) (c : Checked) → only_if asked c ≡ passed → asked ≡ true → c ≡ passed
 unfolding only_if
 asked_passed asked c h e = rw e at h
 
-pub asked_passes : (asked : Bool) (c : Checked) → (asked ≡ true → c ≡ Passed) → only_if asked c ≡ Passed
+pub asked_passes : (asked : Bool) (c : Checked) → (asked ≡ true → c ≡ passed) → only_if asked c ≡ passed
 unfolding only_if
 asked_passes true c h = h refl
 asked_passes false c h = refl
@@ -79,13 +78,13 @@ pub record Lent (wanted : Bool) (needs tn qn : ℕ) : Type 0 where
   pub t : tn ≡ needs
   pub q : wanted ≡ true → qn ≡ needs
 
-pub lent_passed : (wanted : Bool) (needs tn qn : ℕ) → lent_lengths wanted needs tn qn ≡ Passed → Lent wanted needs tn qn
+pub lent_passed : (wanted : Bool) (needs tn qn : ℕ) → lent_lengths wanted needs tn qn ≡ passed → Lent wanted needs tn qn
 unfolding lent_lengths
 lent_passed wanted needs tn qn h =
     let l = length_then _ tn needs _ h in
     record { t = l.size; q = λ e. length_passed _ qn needs (asked_passed wanted _ l.behind e) }
 
-pub lent_passes : {wanted : Bool} {needs tn qn : ℕ} → Lent wanted needs tn qn → lent_lengths wanted needs tn qn ≡ Passed
+pub lent_passes : {wanted : Bool} {needs tn qn : ℕ} → Lent wanted needs tn qn → lent_lengths wanted needs tn qn ≡ passed
 unfolding lent_lengths
 lent_passes l = next_passes (length_passes _ l.t) (asked_passes _ _ (λ e. length_passes _ (l.q e)))
 
@@ -95,24 +94,24 @@ pub record Matrices (wanted : Bool) (needs mn tn qn : ℕ) : Type 0 where
   pub t : tn ≡ needs
   pub q : wanted ≡ true → qn ≡ needs
 
-pub matrices_passed : (wanted : Bool) (needs mn tn qn : ℕ) → matrix_lengths wanted needs mn tn qn ≡ Passed → Matrices wanted needs mn tn qn
+pub matrices_passed : (wanted : Bool) (needs mn tn qn : ℕ) → matrix_lengths wanted needs mn tn qn ≡ passed → Matrices wanted needs mn tn qn
 unfolding matrix_lengths
 matrices_passed wanted needs mn tn qn h =
     let a = length_then _ mn needs _ h in
     let l = lent_passed wanted needs tn qn a.behind in
     record { m = a.size; t = l.t; q = l.q }
 
-pub matrices_passes : {wanted : Bool} {needs mn tn qn : ℕ} → Matrices wanted needs mn tn qn → matrix_lengths wanted needs mn tn qn ≡ Passed
+pub matrices_passes : {wanted : Bool} {needs mn tn qn : ℕ} → Matrices wanted needs mn tn qn → matrix_lengths wanted needs mn tn qn ≡ passed
 unfolding matrix_lengths
 matrices_passes l = next_passes (length_passes _ l.m) (lent_passes (record { t = l.t; q = l.q }))
 
 -- ---- entries
 
-pub entries_passed : (n : ℕ) (m : List Float) → entry_checks n m ≡ Passed → first_not_finite n m ≡ Nowhere
+pub entries_passed : (n : ℕ) (m : List Float) → entry_checks n m ≡ passed → first_not_finite n m ≡ None
 unfolding entry_checks
 entries_passed n m h = refuse_at_passed _ _ h
 
-pub entries_passes : (n : ℕ) (m : List Float) → first_not_finite n m ≡ Nowhere → entry_checks n m ≡ Passed
+pub entries_passes : (n : ℕ) (m : List Float) → first_not_finite n m ≡ None → entry_checks n m ≡ passed
 unfolding entry_checks refuse_at
 entries_passes n m h = rw h
 
@@ -121,17 +120,17 @@ entries_passes n m h = rw h
 pub record Allowed (lengths : Checked) (n : ℕ) (m : List Float) : Type 0 where
   pub some : 1 ≤ n
   pub order : n ≤ 64
-  pub lent : lengths ≡ Passed
-  pub entries : first_not_finite n m ≡ Nowhere
+  pub lent : lengths ≡ passed
+  pub entries : first_not_finite n m ≡ None
 
-pub given_passed : (lengths : Checked) (n : ℕ) (m : List Float) → given_checks lengths n m ≡ Passed → Allowed lengths n m
+pub given_passed : (lengths : Checked) (n : ℕ) (m : List Float) → given_checks lengths n m ≡ passed → Allowed lengths n m
 unfolding given_checks
 given_passed lengths n m h =
     let o = order_then n _ h in
     let b = next_passed _ _ o.behind in
     record { some = o.some; order = o.order; lent = b.0; entries = entries_passed n m b.1 }
 
-pub given_passes : {lengths : Checked} {n : ℕ} {m : List Float} → Allowed lengths n m → given_checks lengths n m ≡ Passed
+pub given_passes : {lengths : Checked} {n : ℕ} {m : List Float} → Allowed lengths n m → given_checks lengths n m ≡ passed
 unfolding given_checks
 given_passes {lengths} {n} {m} g = next_passes (order_passes g.some g.order) (next_passes g.lent (entries_passes n m g.entries))
 

@@ -1,5 +1,6 @@
 -- A search as a loop makes it: what is left to search is the whole. From one number to the next, as along a row, a column or the diagonal; and column by
 -- column, which finds nothing exactly where the test names no place. Assumes nothing.
+use Rattle.std.specs.Prelude.{None, Some}
 use Prim.Native.Nat.{ℕ, ◌+◌, ◌<◌, ◌≤◌}
 use mathlib.Core.Bool.{Bool, true, false, cond}
 use mathlib.Core.Path.{◌≡◌, refl, sym, ap, ◌∙◌}
@@ -10,7 +11,6 @@ use lib.Dec.{ltb}
 use Rattle.loops.specs.First.{first_from}
 use Rattle.loops.proofs.First.{first_here, first_on, first_none, first_same, some_none, none_some}
 use Rattle.refusal.specs.declared.refusal.Place.{Place}
-use Rattle.refusal.specs.declared.search.Search.TheVariants.{At, Nowhere}
 use Rattle.refusal.specs.Refusal.{at}
 use Rattle.refusal.specs.Search.{first_row, first_col, first_place}
 
@@ -53,16 +53,16 @@ pub searched_more : {test : ℕ → ℕ → Bool} {n j : ℕ} → Searched test 
 searched_more {test} {n} {j} s l h = record { upto = omega arith; left = sym (first_on (in_column test n) n j l (le-ltb _ _ h)) ∙ s.left }
 
 -- what the column found makes of the search
-by : (test : ℕ → ℕ → Bool) (n j : ℕ) (b : Bool) → j ≡ first_col test n → ltb j n ≡ b → cond b (At (at (first_row test n j) j)) Nowhere ≡ first_place test n
+by : (test : ℕ → ℕ → Bool) (n j : ℕ) (b : Bool) → j ≡ first_col test n → ltb j n ≡ b → cond b (Some (at (first_row test n j) j)) None ≡ first_place test n
 unfolding first_place
-by test n j b e h = ap (λ d. cond d (At (at (first_row test n j) j)) Nowhere) (sym h) ∙ ap (λ k. cond (ltb k n) (At (at (first_row test n k) k)) Nowhere) e
+by test n j b e h = ap (λ d. cond d (Some (at (first_row test n j) j)) None) (sym h) ∙ ap (λ k. cond (ltb k n) (Some (at (first_row test n k) k)) None) e
 
-pub searched_here : {test : ℕ → ℕ → Bool} {n i j : ℕ} → Searched test n j → j < n → i ≡ first_row test n j → i < n → At (at i j) ≡ first_place test n
+pub searched_here : {test : ℕ → ℕ → Bool} {n i j : ℕ} → Searched test n j → j < n → i ≡ first_row test n j → i < n → Some (at i j) ≡ first_place test n
 searched_here {test} {n} {i} {j} s l e h =
     let row : first_row test n j < n = omega arith in
-    ap (λ k. At (at k j)) e ∙ by test n j true (sym (first_here (in_column test n) n j (lt-ltb _ _ row)) ∙ s.left) (lt-ltb _ _ l)
+    ap (λ k. Some (at k j)) e ∙ by test n j true (sym (first_here (in_column test n) n j (lt-ltb _ _ row)) ∙ s.left) (lt-ltb _ _ l)
 
-pub searched_done : {test : ℕ → ℕ → Bool} {n j : ℕ} → Searched test n j → n ≤ j → Nowhere ≡ first_place test n
+pub searched_done : {test : ℕ → ℕ → Bool} {n j : ℕ} → Searched test n j → n ≤ j → None ≡ first_place test n
 searched_done {test} {n} {j} s l = by test n j false (sym (first_none (in_column test n) n j l) ∙ s.left) (le-ltb _ _ l)
 
 -- two tests that say the same of every place of the matrix find the same
@@ -80,7 +80,7 @@ first_place_same test other n same = go (dec_lt (first_col test n) n)
     go : Dec (first_col test n < n) → first_place test n ≡ first_place other n
     go (yes l) =
         sym (by test n (first_col test n) true refl (lt-ltb _ _ l))
-        ∙ ap (λ i. At (at i (first_col test n))) (first_row_same test other n (first_col test n) (λ i h. same i (first_col test n) h l))
+        ∙ ap (λ i. Some (at i (first_col test n))) (first_row_same test other n (first_col test n) (λ i h. same i (first_col test n) h l))
         ∙ by other n (first_col test n) true (first_col_same test other n same) (lt-ltb _ _ l)
     go (no l) =
         let past : ltb (first_col test n) n ≡ false = le-ltb (first_col test n) n (omega arith) in
@@ -88,14 +88,14 @@ first_place_same test other n same = go (dec_lt (first_col test n) n)
 
 -- ---- nowhere: no place of the matrix is named; and the other way
 
-missed : (b : Bool) (p : Place) → cond b (At p) Nowhere ≡ Nowhere → b ≡ false
+missed : (b : Bool) (p : Place) → cond b (Some p) None ≡ None → b ≡ false
 missed true p h = cc
 missed false p h = refl
 
-pub nowhere_none : (test : ℕ → ℕ → Bool) (n : ℕ) → first_place test n ≡ Nowhere → (i j : ℕ) → i < n → j < n → test i j ≡ false
+pub nowhere_none : (test : ℕ → ℕ → Bool) (n : ℕ) → first_place test n ≡ None → (i j : ℕ) → i < n → j < n → test i j ≡ false
 unfolding first_place first_col first_row
 nowhere_none test n h i j k l = some_none (λ i. test i j) 0 n i (some_none (in_column test n) 0 n j (missed _ _ h) (omega arith) l) (omega arith) k
 
-pub none_nowhere : (test : ℕ → ℕ → Bool) (n : ℕ) → ((i j : ℕ) → i < n → j < n → test i j ≡ false) → first_place test n ≡ Nowhere
+pub none_nowhere : (test : ℕ → ℕ → Bool) (n : ℕ) → ((i j : ℕ) → i < n → j < n → test i j ≡ false) → first_place test n ≡ None
 unfolding first_place first_col first_row
 none_nowhere test n none = rw (none_some (in_column test n) 0 n (omega arith) (λ j _ l. none_some (λ i. test i j) 0 n (omega arith) (λ i _ k. none i j k l)))

@@ -1,4 +1,5 @@
 -- Where no entry is at fault: all are finite, and the shape is quasi-triangular; and the other way (document 00, demand 3). Assumes nothing.
+use Rattle.std.specs.Prelude.{None}
 use Prim.Native.Nat.{ℕ, zero, suc, ◌+◌, ◌-◌, ◌*◌, ◌<◌, ◌≤◌}
 use mathlib.Core.Bool.{Bool, true, false, not, ◌&&◌, ◌||◌}
 use mathlib.Core.Path.{◌≡◌, refl, sym, ap, ◌∙◌}
@@ -14,7 +15,6 @@ use Rattle.loops.specs.Rounded.{◌!◌}
 use Rattle.scalar.specs.Class.{is_zero}
 use Rattle.matrix.specs.Fits.{block_fits}
 use Rattle.matrix.proofs.Fitting.{fitting}
-use Rattle.refusal.specs.declared.search.Search.TheVariants.{Nowhere}
 use Rattle.refusal.specs.Search.{first_place, not_finite, spoils, first_not_finite, first_spoiling}
 use Rattle.refusal.specs.Shape.{AllFinite, QuasiTriangular}
 use Rattle.refusal.proofs.Searching.{nowhere_none, none_nowhere}
@@ -37,19 +37,19 @@ just_next n t k =
 module _ (n : ℕ) (t : List Float) where
   -- ---- finite
 
-  pub nowhere_finite : n ≤ 64 → length t ≡ n * n → first_not_finite n t ≡ Nowhere → AllFinite n t
+  pub nowhere_finite : n ≤ 64 → length t ≡ n * n → first_not_finite n t ≡ None → AllFinite n t
   unfolding first_not_finite not_finite
   nowhere_finite o e h i j k l = not-false _ (nowhere_none (not_finite n t) n (rw (fitting n (length t) n n o e (omega arith) (omega arith)) at h) i j k l)
 
-  pub finite_nowhere : AllFinite n t → first_not_finite n t ≡ Nowhere
+  pub finite_nowhere : AllFinite n t → first_not_finite n t ≡ None
   unfolding first_not_finite not_finite
   finite_nowhere f =
-      cond_hold (λ x. x ≡ Nowhere) (block_fits n (length t) n n) (first_place (not_finite n t) n) Nowhere
+      cond_hold (λ x. x ≡ None) (block_fits n (length t) n n) (first_place (not_finite n t) n) None
       (λ _. none_nowhere (not_finite n t) n (λ i j k l. ap not (f i j k l))) refl
 
   -- ---- quasi-triangular
 
-  pub nowhere_shape : n ≤ 64 → length t ≡ n * n → first_spoiling n t ≡ Nowhere → QuasiTriangular n t
+  pub nowhere_shape : n ≤ 64 → length t ≡ n * n → first_spoiling n t ≡ None → QuasiTriangular n t
   unfolding first_spoiling
   nowhere_shape o e h =
       let none = nowhere_none (spoils n t) n (rw (fitting n (length t) n n o e (omega arith) (omega arith)) at h) in
@@ -74,7 +74,7 @@ module _ (n : ℕ) (t : List Float) where
       go (yes a) (yes b) = let l : j + 2 ≤ i = omega arith in spoils_far n t i j l ∙ ap not (s.far i j h l)
       go (yes a) (no b) = let e : i ≡ j + 1 = omega arith in rw e (just_none s j (omega arith))
 
-  pub shape_nowhere : QuasiTriangular n t → first_spoiling n t ≡ Nowhere
+  pub shape_nowhere : QuasiTriangular n t → first_spoiling n t ≡ None
   unfolding first_spoiling
-  shape_nowhere s = cond_hold (λ x. x ≡ Nowhere) (block_fits n (length t) n n) (first_place (spoils n t) n) Nowhere
+  shape_nowhere s = cond_hold (λ x. x ≡ None) (block_fits n (length t) n n) (first_place (spoils n t) n) None
       (λ _. none_nowhere (spoils n t) n (λ i j h _. shape_none s i j h)) refl

@@ -1,11 +1,10 @@
 -- The checks that several entries make alike, each by itself. An entry joins them by `next`, in the order of document
 -- 01's table.
+use Rattle.refusal.specs.Refusal.{Checked, passed}
 use Rattle.std.specs.Prelude.{ℕ, Bool, cond, not, List, eqb, ltb, Float}
 use Rattle.refusal.specs.declared.refusal.Refusal.{Refusal}
 use Rattle.refusal.specs.declared.refusal.Refusal.TheVariants.{OrderZero, OrderTooLarge, WrongLength}
 use Rattle.refusal.specs.declared.refusal.Refusal.TheVariants.{EntryNotFinite}
-use Rattle.refusal.specs.declared.refusal.Checked.{Checked}
-use Rattle.refusal.specs.declared.refusal.Checked.TheVariants.{Passed}
 use Rattle.refusal.specs.Refusal.{refuse, refuse_at, ◌next◌}
 use Rattle.refusal.specs.Search.{first_not_finite}
 
@@ -21,7 +20,7 @@ length_check fault has needs = refuse (not (eqb has needs)) fault
 
 -- a check that is made only where it is asked for: Q's, where Q is wanted
 unfoldable pub only_if : (asked : Bool) → Checked → Checked
-only_if asked c = cond asked c Passed
+only_if asked c = cond asked c passed
 
 -- what is lent for T, and for Q where it is wanted: both need as much
 unfoldable pub lent_lengths : (wanted : Bool) → (needs tn qn : ℕ) → Checked

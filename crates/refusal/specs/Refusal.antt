@@ -1,5 +1,5 @@
 -- The refusals of document 01's table: the number of each, and the place that it tells.
-use Rattle.std.specs.Prelude.{ℕ, Bool, cond}
+use Rattle.std.specs.Prelude.{ℕ, Bool, cond, Option, Some, None, Result, Ok, Err}
 use Rattle.refusal.specs.declared.refusal.Place.{Place}
 use Rattle.refusal.specs.declared.refusal.Refusal.{Refusal}
 use Rattle.refusal.specs.declared.refusal.Refusal.TheVariants.{OrderZero, OrderTooLarge, WrongLength}
@@ -8,10 +8,6 @@ use Rattle.refusal.specs.declared.refusal.Refusal.TheVariants.{BudgetReached, Re
 use Rattle.refusal.specs.declared.refusal.Refusal.TheVariants.{ComplexEigenvalues, BlockNotComplex}
 use Rattle.refusal.specs.declared.refusal.Refusal.TheVariants.{InputCutShort, UnknownKind, InputLengthWrong}
 use Rattle.refusal.specs.declared.refusal.Told.{Told}
-use Rattle.refusal.specs.declared.refusal.Checked.{Checked}
-use Rattle.refusal.specs.declared.refusal.Checked.TheVariants.{Passed, Refused}
-use Rattle.refusal.specs.declared.search.Search.{Search}
-use Rattle.refusal.specs.declared.search.Search.TheVariants.{At, Nowhere}
 
 abbrev pub at : (row col : ℕ) → Place
 at row col = record { row = row; col = col }
@@ -38,28 +34,35 @@ told_of InputCutShort = without_place 12
 told_of UnknownKind = without_place 13
 told_of InputLengthWrong = without_place 14
 
+-- what one check, or several in turn, come to
+abbrev pub Checked : Type 0
+Checked = Result (Unit {0}) Refusal
+
+abbrev pub passed : Checked
+passed = Ok tt
+
 -- what checks tell: the number and the place of the refusal, 0 where all have passed
 unfoldable pub checked_told : Checked → Told
-checked_told Passed = without_place 0
-checked_told (Refused r) = told_of r
+checked_told (Ok u) = without_place 0
+checked_told (Err r) = told_of r
 
 -- ---- checks: the first that does not pass is what is answered
 
 -- r where the fault is there
 unfoldable pub refuse : Bool → Refusal → Checked
-refuse fault r = cond fault (Refused r) Passed
+refuse fault r = cond fault (Err r) passed
 
 -- the same with the place that a search found
-unfoldable pub refuse_at : (Place → Refusal) → Search → Checked
-refuse_at r (At p) = Refused (r p)
-refuse_at r Nowhere = Passed
+unfoldable pub refuse_at : (Place → Refusal) → Option Place → Checked
+refuse_at r (Some p) = Err (r p)
+refuse_at r None = passed
 
 infixr 30 ◌next◌
 unfoldable pub ◌next◌ : Checked → Checked → Checked
-◌next◌ Passed c = c
-◌next◌ (Refused r) c = Refused r
+◌next◌ (Ok u) c = c
+◌next◌ (Err r) c = Err r
 
 -- what is left of lent memory: x after all checks have passed, and y where one has not
 unfoldable pub if_passed : {A : Type 0} → Checked → A → A → A
-if_passed Passed x y = x
-if_passed (Refused r) x y = y
+if_passed (Ok u) x y = x
+if_passed (Err r) x y = y

@@ -7,110 +7,95 @@ ghost use Rattle.refusal.specs.Search.{first_not_finite, first_spoiling};
 ghost use Rattle.refusal.specs.Checks.{order_checks, length_check, lent_lengths, matrix_lengths, entry_checks};
 ghost use Rattle.refusal.specs.Checks.{given_checks};
 
-use crate::refusal::{Checked, Refusal};
-use crate::search::{Search, first_not_finite, first_spoiling};
+use crate::refusal::Refusal;
+use crate::search::{first_not_finite, first_spoiling};
 
 // The order is 0: 1. It is above 64: 2.
-pub fn check_order(n: usize) -> Checked
+pub fn check_order(n: usize) -> Result<(), Refusal>
     ensures { result ≡ order_checks n }
 {
     if n == 0 {
-        return Checked::Refused(Refusal::OrderZero);
+        return Err(Refusal::OrderZero);
     }
     if n > 64 {
-        return Checked::Refused(Refusal::OrderTooLarge);
+        return Err(Refusal::OrderTooLarge);
     }
-    Checked::Passed
+    Ok(())
 }
 
 // What is lent has another length than it needs.
-pub fn check_length(has: usize, needs: usize, fault: Refusal) -> Checked
+pub fn check_length(has: usize, needs: usize, fault: Refusal) -> Result<(), Refusal>
     ensures { result ≡ length_check fault has needs }
 {
     if has != needs {
-        return Checked::Refused(fault);
+        return Err(fault);
     }
-    Checked::Passed
+    Ok(())
 }
 
 // What is lent for T, then for Q if it is wanted.
-pub fn check_lent(wanted: bool, needs: usize, tn: usize, qn: usize) -> Checked
+pub fn check_lent(wanted: bool, needs: usize, tn: usize, qn: usize) -> Result<(), Refusal>
     ensures { result ≡ lent_lengths wanted needs tn qn }
 {
-    let checked = check_length(tn, needs, Refusal::WrongLength);
-    let Checked::Passed = checked else {
-        return checked;
-    };
+    check_length(tn, needs, Refusal::WrongLength)?;
     if !wanted {
-        return checked;
+        return Ok(());
     }
     check_length(qn, needs, Refusal::WrongLength)
 }
 
 // The matrix, then what is lent for T and Q.
-pub fn check_matrices(wanted: bool, needs: usize, mn: usize, tn: usize, qn: usize) -> Checked
+pub fn check_matrices(wanted: bool, needs: usize, mn: usize, tn: usize, qn: usize) -> Result<(), Refusal>
     ensures { result ≡ matrix_lengths wanted needs mn tn qn }
 {
-    let checked = check_length(mn, needs, Refusal::WrongLength);
-    let Checked::Passed = checked else {
-        return checked;
-    };
+    check_length(mn, needs, Refusal::WrongLength)?;
     check_lent(wanted, needs, tn, qn)
 }
 
 // The order, then the lengths: the matrix's, and what the others have come to.
-pub fn check_sizes(n: usize, mn: usize, others: Checked) -> Checked
+pub fn check_sizes(n: usize, mn: usize, others: Result<(), Refusal>) -> Result<(), Refusal>
     ensures { result ≡ (order_checks n next length_check WrongLength mn (n * n) next others) }
 {
-    let checked = check_order(n);
-    let Checked::Passed = checked else {
-        return checked;
-    };
-    let square = check_length(mn, n * n, Refusal::WrongLength);
-    let Checked::Passed = square else {
-        return square;
-    };
+    check_order(n)?;
+    check_length(mn, n * n, Refusal::WrongLength)?;
     others
 }
 
 // An entry handed in is NaN or infinite: 6.
-pub fn check_entries(m: &[f64], n: usize) -> Checked
+pub fn check_entries(m: &[f64], n: usize) -> Result<(), Refusal>
     ensures { result ≡ entry_checks n m.now }
 {
     match first_not_finite(m, n) {
-        Search::At(p) => Checked::Refused(Refusal::EntryNotFinite(p)),
-        Search::Nowhere => Checked::Passed,
+        Some(p) => Err(Refusal::EntryNotFinite(p)),
+        None => Ok(()),
     }
 }
 
 // The order, the lengths, the entries; `others` are the lengths of what is lent beside the matrix.
-pub fn check_given(m: &[f64], n: usize, others: Checked) -> Checked
+pub fn check_given(m: &[f64], n: usize, others: Result<(), Refusal>) -> Result<(), Refusal>
     ensures { result
         ≡ given_checks (length_check WrongLength (length m.now) (n * n) next others) n m.now }
 {
-    let checked = check_sizes(n, m.len(), others);
-    let Checked::Passed = checked else {
-        return checked;
-    };
+    check_sizes(n, m.len(), others)?;
     check_entries(m, n)
 }
 
 // An entry that was worked out is NaN or infinite: 8.
-pub fn check_result(t: &[f64], n: usize) -> Checked
+pub fn check_result(t: &[f64], n: usize) -> Result<(), Refusal>
     ensures { result ≡ refuse_at ResultNotFinite (first_not_finite n t.now) }
 {
     match first_not_finite(t, n) {
-        Search::At(p) => Checked::Refused(Refusal::ResultNotFinite(p)),
-        Search::Nowhere => Checked::Passed,
+        Some(p) => Err(Refusal::ResultNotFinite(p)),
+        None => Ok(()),
     }
 }
 
 // An entry spoils the quasi-triangular shape: 9.
-pub fn check_shape(t: &[f64], n: usize) -> Checked
+pub fn check_shape(t: &[f64], n: usize) -> Result<(), Refusal>
     ensures { result ≡ refuse_at ShapeSpoiled (first_spoiling n t.now) }
 {
     match first_spoiling(t, n) {
-        Search::At(p) => Checked::Refused(Refusal::ShapeSpoiled(p)),
-        Search::Nowhere => Checked::Passed,
+        Some(p) => Err(Refusal::ShapeSpoiled(p)),
+        None => Ok(()),
     }
 }

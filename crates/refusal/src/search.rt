@@ -9,12 +9,6 @@ ghost use Rattle.refusal.specs.Inner.{Tallied};
 
 use crate::refusal::Place;
 
-#[derive(Clone, Copy)]
-pub enum Search {
-    At(Place),
-    Nowhere,
-}
-
 // The first row of column j that is not finite; n where there is none.
 fn row_not_finite(t: &[f64], n: usize, j: usize) -> usize
     requires { (n ≤ 64) × (length t.now ≡ n * n) × (j < n) }
@@ -31,7 +25,7 @@ fn row_not_finite(t: &[f64], n: usize, j: usize) -> usize
 }
 
 // Column by column.
-fn place_not_finite(t: &[f64], n: usize) -> Search
+fn place_not_finite(t: &[f64], n: usize) -> Option<Place>
     requires { (n ≤ 64) × (length t.now ≡ n * n) }
     ensures { result ≡ first_place (not_finite n t.now) n }
 {
@@ -39,11 +33,11 @@ fn place_not_finite(t: &[f64], n: usize) -> Search
     while j < n {
         let i = row_not_finite(t, n, j);
         if i < n {
-            return Search::At(Place { row: i, col: j });
+            return Some(Place { row: i, col: j });
         }
         j = j + 1;
     }
-    Search::Nowhere
+    None
 }
 
 // The count, and one more where x is not finite.
@@ -70,14 +64,14 @@ fn all_finite(t: &[f64]) -> bool
 }
 
 // The first entry that is NaN or infinite: sought only where there is one.
-pub fn first_not_finite(t: &[f64], n: usize) -> Search
+pub fn first_not_finite(t: &[f64], n: usize) -> Option<Place>
     ensures { result ≡ first_not_finite n t.now }
 {
     if !matrix::block_fits(n, t.len(), 0, n, 0, n) {
-        return Search::Nowhere;
+        return None;
     }
     if all_finite(t) {
-        return Search::Nowhere;
+        return None;
     }
     place_not_finite(t, n)
 }
@@ -127,7 +121,7 @@ fn row_spoiling(t: &[f64], n: usize, j: usize) -> usize
 }
 
 // Column by column.
-fn place_spoiling(t: &[f64], n: usize) -> Search
+fn place_spoiling(t: &[f64], n: usize) -> Option<Place>
     requires { (n ≤ 64) × (length t.now ≡ n * n) }
     ensures { result ≡ first_place (spoils n t.now) n }
 {
@@ -135,19 +129,19 @@ fn place_spoiling(t: &[f64], n: usize) -> Search
     while j < n {
         let i = row_spoiling(t, n, j);
         if i < n {
-            return Search::At(Place { row: i, col: j });
+            return Some(Place { row: i, col: j });
         }
         j = j + 1;
     }
-    Search::Nowhere
+    None
 }
 
 // The first entry that spoils the quasi-triangular shape.
-pub fn first_spoiling(t: &[f64], n: usize) -> Search
+pub fn first_spoiling(t: &[f64], n: usize) -> Option<Place>
     ensures { result ≡ first_spoiling n t.now }
 {
     if !matrix::block_fits(n, t.len(), 0, n, 0, n) {
-        return Search::Nowhere;
+        return None;
     }
     place_spoiling(t, n)
 }

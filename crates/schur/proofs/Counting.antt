@@ -1,5 +1,7 @@
 -- What a run answers, by the definition's count, which is of the matrix alone: it ends, with that count, below the budget; or the count is the budget or more.
 -- Assumes nothing.
+use Rattle.std.specs.Prelude.{Ok}
+use Rattle.schur.specs.Run.{Ran}
 use Prim.Native.Nat.{ℕ, ◌+◌, ◌*◌, ◌<◌, ◌≤◌}
 use mathlib.Core.Bool.{Bool, true, false, cond, true≢false}
 use mathlib.Core.Path.{◌≡◌, refl, sym, ap, ◌∙◌, subst}
@@ -18,8 +20,7 @@ use Rattle.matrix.specs.Vectors.{largest, zeros}
 use Rattle.window.specs.declared.Window.{Window}
 use Rattle.pass.specs.declared.setting.Setting.{Setting}
 use Rattle.pass.specs.Pair.{Pair}
-use Rattle.schur.specs.declared.run.Ran.{Ran}
-use Rattle.schur.specs.declared.run.Ran.TheVariants.{Ended, BudgetReached}
+use Rattle.schur.specs.declared.run.Stopped.TheVariants.{BudgetReached}
 use Rattle.schur.specs.Run.{Running, passes_at, closed, delimiting, after, turn_two, turn_more, turn_of, run_from, opened, opened_of, Left}
 use Rattle.schur.specs.Run.{answered, ran_of, largest_budget, count_of}
 use Rattle.schur.proofs.RunAnswers.{answered_reached, answered_ended, RunFits}
@@ -93,13 +94,13 @@ module _ (asked : Setting) (r : Running) (first : passes_at r ≡ 0) where
 
 -- orders 1 and 2 end with no pass counted, even at a budget of 0
 pub data Tells (l : Left) (count budget : ℕ) : Type 0 where
-  ended : (1 ≤ budget → count < budget) → l.answer ≡ Ended count → Tells l count budget
+  ended : (1 ≤ budget → count < budget) → l.answer ≡ Ok count → Tells l count budget
   reached : (w : Window) → budget ≤ count → l.answer ≡ BudgetReached w → Tells l count budget
 
 answered_tells : {count : ℕ} (budget : ℕ) (amax : Float) (r : Running) → Counts (passes_at r) budget count → Tells (answered budget amax r) count budget
 answered_tells {count} budget amax r c = elim c [
   | short l e ↦
-      ended (λ _. l) (sym (ap (λ x. x.answer) (answered_ended budget amax r.state r.pair r refl (λ f. omega arith))) ∙ ap Ended e)
+      ended (λ _. l) (sym (ap (λ x. x.answer) (answered_ended budget amax r.state r.pair r refl (λ f. omega arith))) ∙ ap Ok e)
   | full l e ↦ reached _ l (sym (ap (λ x. x.answer) (answered_reached budget amax r.state r.pair r refl e)))
 ]
 
@@ -143,7 +144,7 @@ module _ (asked : Setting) (budget : ℕ) (p : Pair) (w : List Float) (fits : Ru
       (tells_cond (eqb asked.order 2) (ended (λ l. omega arith) refl) (answered_tells budget (largest p.t) _ counted))
 
   -- below the budget it ends, with the count
-  pub below_ended : count < budget → answer ≡ Ended count
+  pub below_ended : count < budget → answer ≡ Ok count
   below_ended l = elim ran_tells [ ended _ h ↦ h | reached _ e _ ↦ absurd (omega arith) ]
 
   -- A budget above the count is not felt: the run is that with the largest budget.

@@ -1,5 +1,6 @@
 -- T, the answer and the count do not depend on Q: not on whether it is wanted, and not on what is lent for it; nor on what the workspace held. Assumes
 -- nothing.
+use Rattle.std.specs.Prelude.{Err}
 use Prim.Native.Nat.{ℕ, ◌+◌, ◌-◌}
 use mathlib.Core.Bool.{Bool, true, false, cond}
 use mathlib.Core.Path.{◌≡◌, refl, ap, ◌∙◌}
@@ -22,7 +23,7 @@ use Rattle.pass.specs.Block.{split_at}
 use Rattle.pass.proofs.Independent.{pass_of_t, split_at_t, order_two_t}
 use Rattle.schur.specs.declared.run.State.{State}
 use Rattle.schur.specs.Run.{Running, running, state, closed, delimiting, after, turn_two, turn_more, turn_of, run_from, scaled_down, reduced_pair, opened, Left}
-use Rattle.schur.specs.declared.run.Ran.TheVariants.{Unfit}
+use Rattle.schur.specs.declared.run.Stopped.TheVariants.{Unfit}
 use Rattle.schur.specs.Run.{left, answered, run_fits, ran_of, run_of}
 use Rattle.schur.proofs.Lengths.{scaled_down-length}
 use Rattle.schur.proofs.RunAnswers.{RunFits, run_fitting}
@@ -146,7 +147,7 @@ unfolding run_of
 q_not_felt b d asked budget t q q' w = go (run_fits asked.order (length t) (length w)) refl
   where
     go : (x : Bool) → run_fits asked.order (length t) (length w) ≡ x
-        → Same (cond x (ran_of (wanting b asked) budget (pair t q) w) (left Unfit (pair t q)))
-        (cond x (ran_of (wanting d asked) budget (pair t q') w) (left Unfit (pair t q')))
+        → Same (cond x (ran_of (wanting b asked) budget (pair t q) w) (left (Err Unfit) (pair t q)))
+        (cond x (ran_of (wanting d asked) budget (pair t q') w) (left (Err Unfit) (pair t q')))
     go true h = let fits = run_fitting _ _ _ h in ran_same b d asked budget t q q' w w fits fits
     go false h = record { answer = refl; t = refl }

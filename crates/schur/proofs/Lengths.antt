@@ -1,4 +1,5 @@
 -- The run keeps the lengths of T and Q. Assumes nothing.
+use Rattle.std.specs.Prelude.{Err, Ok}
 use Prim.Native.Nat.{ℕ, ◌+◌, ◌-◌}
 use mathlib.Core.Path.{◌≡◌, refl, ◌∙◌}
 use mathlib.Core.List.{List}
@@ -23,7 +24,7 @@ use Rattle.pass.specs.Block.{split_at, order_two}
 use Rattle.pass.proofs.Lengths.{AsLong, same_long, then_long, on_q-length, pass_of_length, split_length, order_two_length}
 use Rattle.pass.specs.declared.setting.Setting.{Setting}
 use Rattle.schur.specs.declared.run.State.{State}
-use Rattle.schur.specs.declared.run.Ran.TheVariants.{Ended, BudgetReached}
+use Rattle.schur.specs.declared.run.Stopped.TheVariants.{BudgetReached}
 use Rattle.schur.specs.Run.{Running, running, state, closed, delimiting, after, turn_two, turn_more, turn_of, run_from, scaled_down, reduced_pair, opened, Left}
 use Rattle.schur.specs.Run.{left, answered, ran_of}
 
@@ -86,8 +87,8 @@ opened_length asked p w =
 answered_length : (budget : ℕ) (amax : Float) (r : Running) → AsLong r.pair (answered budget amax r).pair
 unfolding answered scaled
 answered_length budget amax r =
-    cond_hold (λ (l : Left). AsLong r.pair l.pair) (eqb r.state.passes budget) (left (BudgetReached r.state.window) r.pair)
-    (left (Ended r.state.passes) (pair (scaled amax r.pair.t) r.pair.q)) (λ _. same_long r.pair)
+    cond_hold (λ (l : Left). AsLong r.pair l.pair) (eqb r.state.passes budget) (left (Err (BudgetReached r.state.window)) r.pair)
+    (left (Ok r.state.passes) (pair (scaled amax r.pair.t) r.pair.q)) (λ _. same_long r.pair)
     (record { t = each_to-length _ _ r.pair.t; q = refl })
 
 -- ---- every run
@@ -97,7 +98,7 @@ unfolding ran_of
 ran_length asked budget p w =
     let r = opened asked p w in
     let whole = answered budget (largest p.t) (run_from asked budget r) in
-    cond_hold (λ (l : Left). AsLong p l.pair) (eqb asked.order 1) (left (Ended 0) (pair p.t (on_q asked.wanted (filled one) p.q))) _
+    cond_hold (λ (l : Left). AsLong p l.pair) (eqb asked.order 1) (left (Ok 0) (pair p.t (on_q asked.wanted (filled one) p.q))) _
     (λ _. record { t = refl; q = on_q-length asked.wanted (filled one) p.q (filled-length one p.q) })
-    (cond_hold (λ (l : Left). AsLong p l.pair) (eqb asked.order 2) (left (Ended 0) (order_two asked p)) whole (λ _. order_two_length asked p)
+    (cond_hold (λ (l : Left). AsLong p l.pair) (eqb asked.order 2) (left (Ok 0) (order_two asked p)) whole (λ _. order_two_length asked p)
     (then_long (then_long (opened_length asked p w) (run_from_length asked budget r)) (answered_length budget _ (run_from asked budget r))))

@@ -1,4 +1,5 @@
 -- What a run answers, told of the state at which it stopped, and what its test of the arguments tells. Assumes nothing.
+use Rattle.std.specs.Prelude.{Err, Ok}
 use Prim.Native.Nat.{ℕ, ◌*◌, ◌≤◌}
 use mathlib.Core.Bool.{Bool, true, false, cond}
 use mathlib.Core.Logic.{◌≢◌}
@@ -9,7 +10,7 @@ use lib.Ieee.{Float}
 use Rattle.matrix.specs.Vectors.{scaled}
 use Rattle.matrix.proofs.Fitting.{fits, both}
 use Rattle.schur.specs.declared.run.State.{State}
-use Rattle.schur.specs.declared.run.Ran.TheVariants.{Ended, BudgetReached}
+use Rattle.schur.specs.declared.run.Stopped.TheVariants.{BudgetReached}
 use Rattle.pass.specs.Pair.{Pair, pair}
 use Rattle.schur.specs.Run.{Running, running, left, answered, run_fits}
 
@@ -17,18 +18,18 @@ use Rattle.schur.specs.Run.{Running, running, left, answered, run_fits}
 
 -- the test at the state in hand
 tested : (budget : ℕ) (amax : Float) (s : State) (p : Pair) (r : Running) (b : Bool) → running s p ≡ r → eqb s.passes budget ≡ b
-    → cond b (left (BudgetReached s.window) p) (left (Ended s.passes) (pair (scaled amax p.t) p.q)) ≡ answered budget amax r
+    → cond b (left (Err (BudgetReached s.window)) p) (left (Ok s.passes) (pair (scaled amax p.t) p.q)) ≡ answered budget amax r
 unfolding answered
 tested budget amax s p r b e h =
-    sym (ap (λ d. cond d (left (BudgetReached s.window) p) (left (Ended s.passes) (pair (scaled amax p.t) p.q))) h)
+    sym (ap (λ d. cond d (left (Err (BudgetReached s.window)) p) (left (Ok s.passes) (pair (scaled amax p.t) p.q))) h)
     ∙ ap (answered budget amax) e
 
 pub answered_reached : (budget : ℕ) (amax : Float) (s : State) (p : Pair) (r : Running) → running s p ≡ r → s.passes ≡ budget
-    → left (BudgetReached s.window) p ≡ answered budget amax r
+    → left (Err (BudgetReached s.window)) p ≡ answered budget amax r
 answered_reached budget amax s p r e h = tested budget amax s p r true e (eq-eqb _ _ h)
 
 pub answered_ended : (budget : ℕ) (amax : Float) (s : State) (p : Pair) (r : Running) → running s p ≡ r → s.passes ≢ budget
-    → left (Ended s.passes) (pair (scaled amax p.t) p.q) ≡ answered budget amax r
+    → left (Ok s.passes) (pair (scaled amax p.t) p.q) ≡ answered budget amax r
 answered_ended budget amax s p r e h = tested budget amax s p r false e (ne_eqb _ _ h)
 
 -- ---- the test of the arguments

@@ -1,6 +1,6 @@
 -- The run (document 01, steps 1, 2, 6 and 7; docs/SUMS.md, 7.1 and 7.5 to 7.10): opened, then one turn after another
 -- until the window has closed or the counted passes have reached the budget.
-use Rattle.std.specs.Prelude.{ℕ, ◌+◌, ◌-◌, ◌*◌, Bool, cond, ◌&&◌, List, eqb, leb, length, Float}
+use Rattle.std.specs.Prelude.{ℕ, ◌+◌, ◌-◌, ◌*◌, Bool, cond, ◌&&◌, List, eqb, leb, length, Result, Ok, Err, Float}
 use Rattle.loops.specs.Constants.{zero, one}
 use Rattle.loops.specs.Until.{until}
 use Rattle.scalar.specs.Class.{is_zero}
@@ -11,8 +11,8 @@ use Rattle.hessenberg.specs.Unpacked.{unpacked_h, unpacked_q}
 use Rattle.window.specs.declared.Window.{Window}
 use Rattle.pass.specs.declared.setting.Setting.{Setting}
 use Rattle.schur.specs.declared.run.State.{State}
-use Rattle.schur.specs.declared.run.Ran.{Ran}
-use Rattle.schur.specs.declared.run.Ran.TheVariants.{Ended, BudgetReached, Unfit}
+use Rattle.schur.specs.declared.run.Stopped.{Stopped}
+use Rattle.schur.specs.declared.run.Stopped.TheVariants.{BudgetReached, Unfit}
 use Rattle.window.specs.Window.{window, delimit_of}
 use Rattle.pass.specs.Pair.{Pair, pair, on_q}
 use Rattle.pass.specs.Pass.{pass_of}
@@ -87,6 +87,10 @@ unfoldable pub opened : Setting → Pair → (w : List Float) → Running
 opened asked p w =
     delimiting asked (asked.order - 1) (λ v. state v 0) (reduced_pair asked (pair (scaled_down p.t) p.q) w)
 
+-- what a run answers: the counted passes after which it ended, or why it did not end
+abbrev pub Ran : Type 0
+Ran = Result ℕ Stopped
+
 -- what a run answers, and what it leaves in T and Q
 pub record Left : Type 0 where
   pub answer : Ran
@@ -99,8 +103,8 @@ left a p = record { answer = a; pair = p }
 -- magnitude that it was divided by.
 unfoldable pub answered : (budget : ℕ) → (amax : Float) → Running → Left
 answered budget amax r =
-    cond (eqb r.state.passes budget) (left (BudgetReached r.state.window) r.pair)
-    (left (Ended r.state.passes) (pair (scaled amax r.pair.t) r.pair.q))
+    cond (eqb r.state.passes budget) (left (Err (BudgetReached r.state.window)) r.pair)
+    (left (Ok r.state.passes) (pair (scaled amax r.pair.t) r.pair.q))
 
 -- ---- every order
 
@@ -111,8 +115,8 @@ run_fits n tn wn = leb 1 n && (block_fits n tn n n && eqb wn (2 * n))
 -- order 1: T is the matrix, Q is 1
 unfoldable pub ran_of : Setting → (budget : ℕ) → Pair → (w : List Float) → Left
 ran_of asked budget p w =
-    cond (eqb asked.order 1) (left (Ended 0) (pair p.t (on_q asked.wanted (filled one) p.q)))
-    (cond (eqb asked.order 2) (left (Ended 0) (order_two asked p))
+    cond (eqb asked.order 1) (left (Ok 0) (pair p.t (on_q asked.wanted (filled one) p.q)))
+    (cond (eqb asked.order 2) (left (Ok 0) (order_two asked p))
     (answered budget (largest p.t) (run_from asked budget (opened asked p w))))
 
 -- ---- of the matrix alone
@@ -153,7 +157,7 @@ window_of asked budget t = (run_from asked budget (opened_of asked t)).state.win
 -- where something does not fit nothing is done
 unfoldable pub run_of : Setting → (budget : ℕ) → Pair → (w : List Float) → Left
 run_of asked budget p w =
-    cond (run_fits asked.order (length p.t) (length w)) (ran_of asked budget p w) (left Unfit p)
+    cond (run_fits asked.order (length p.t) (length w)) (ran_of asked budget p w) (left (Err Unfit) p)
 
 -- the workspace afterwards: +0 throughout, unless nothing is done
 unfoldable pub work_after : (n : ℕ) → (t w : List Float) → List Float

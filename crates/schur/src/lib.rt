@@ -4,4 +4,4 @@
 
 mod run;
 
-pub use run::{Ran, State, do_decompose};
+pub use run::{State, Stopped, do_decompose};

@@ -19,11 +19,9 @@ pub struct State {
     pub passes: u64,
 }
 
-// What a run answers: it ended after so many counted passes; they reached the budget, with this window
-// open; or an argument does not fit.
+// Why a run did not end: the counted passes reached the budget, with this window open; or an argument does not fit.
 #[derive(Clone, Copy)]
-pub enum Ran {
-    Ended(u64),
+pub enum Stopped {
     BudgetReached(Window),
     Unfit,
 }
@@ -155,7 +153,7 @@ fn begin(t: &mut [f64], q: &mut [f64], asked: Setting, work: &mut [f64]) -> Open
 }
 
 // Order 3 and up.
-fn run_large(t: &mut [f64], q: &mut [f64], asked: Setting, budget: u64, work: &mut [f64]) -> Ran
+fn run_large(t: &mut [f64], q: &mut [f64], asked: Setting, budget: u64, work: &mut [f64]) -> Result<u64, Stopped>
     requires { Square asked t.old × (3 ≤ asked.order) }
     ensures { left result (pair t.new q.new)
         ≡ answered budget (largest t.old)
@@ -166,10 +164,10 @@ fn run_large(t: &mut [f64], q: &mut [f64], asked: Setting, budget: u64, work: &m
     let s = state.run_from(t, q, asked, budget);
     if s.passes == budget {
         let window = s.window;
-        return Ran::BudgetReached(window);
+        return Err(Stopped::BudgetReached(window));
     }
     matrix::scale_mut(t, begun.amax);
-    Ran::Ended(s.passes)
+    Ok(s.passes)
 }
 
 // Q of order 1, where it is wanted.
@@ -182,18 +180,18 @@ fn one_in_q(q: &mut [f64], wanted: bool)
 }
 
 // Every order.
-fn run_fitting(t: &mut [f64], q: &mut [f64], asked: Setting, budget: u64, work: &mut [f64]) -> Ran
+fn run_fitting(t: &mut [f64], q: &mut [f64], asked: Setting, budget: u64, work: &mut [f64]) -> Result<u64, Stopped>
     requires { Square asked t.old × (1 ≤ asked.order) }
     ensures { left result (pair t.new q.new)
         ≡ ran_of asked budget (pair t.old q.old) work.old }
 {
     if asked.order == 1 {
         one_in_q(q, asked.wanted);
-        return Ran::Ended(0);
+        return Ok(0);
     }
     if asked.order == 2 {
         pass::decompose_2x2(t, q, asked);
-        return Ran::Ended(0);
+        return Ok(0);
     }
     run_large(t, q, asked, budget, work)
 }
@@ -219,13 +217,13 @@ pub fn do_decompose(
     asked: Setting,
     budget: u64,
     work: &mut [f64],
-) -> Ran
+) -> Result<u64, Stopped>
     ensures q_after { left result (pair t.new q.new)
         ≡ run_of asked budget (pair t.old q.old) work.old }
     ensures work_after { work.new ≡ work_after asked.order t.old work.old }
 {
     if !run_fits(asked.order, t.len(), work.len()) {
-        return Ran::Unfit;
+        return Err(Stopped::Unfit);
     }
     let ran = run_fitting(t, q, asked, budget, work);
     matrix::fill(work, 0.0);

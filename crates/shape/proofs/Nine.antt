@@ -1,5 +1,8 @@
 -- Where refusal 9 comes from (document 00, demand 3): from no run but one in which an axis was not zero and its squares vanished. Every other run that ends
 -- short of its budget keeps the shape by its own steps, NaN and infinities included. Assumes nothing.
+use Rattle.std.specs.Prelude.{None, Ok}
+use Rattle.refusal.specs.Refusal.{Checked, passed}
+use Rattle.decomposition.specs.Decomposition.{Decomposed}
 use Prim.Native.Nat.{ℕ, ◌*◌, ◌≤◌}
 use mathlib.Core.Bool.{Bool, true, false}
 use mathlib.Core.Path.{◌≡◌, refl, sym, ap, ◌∙◌, subst}
@@ -13,9 +16,6 @@ use Rattle.matrix.specs.Vectors.{largest}
 use Rattle.matrix.proofs.Blocks.{each_place}
 use Rattle.matrix.proofs.Largest.{largest_finite}
 use Rattle.refusal.specs.declared.refusal.Refusal.TheVariants.{ResultNotFinite}
-use Rattle.refusal.specs.declared.refusal.Checked.{Checked}
-use Rattle.refusal.specs.declared.refusal.Checked.TheVariants.{Passed}
-use Rattle.refusal.specs.declared.search.Search.TheVariants.{Nowhere}
 use Rattle.refusal.specs.Refusal.{told_of, refuse_at, checked_told}
 use Rattle.refusal.specs.Search.{first_not_finite}
 use Rattle.refusal.specs.Shape.{QuasiTriangular}
@@ -24,11 +24,9 @@ use Rattle.refusal.proofs.PassedChecks.{only_asked}
 use Rattle.refusal.proofs.Shape.{nowhere_finite, shape_nowhere}
 use Rattle.pass.specs.declared.setting.Setting.{Setting}
 use Rattle.pass.specs.Pair.{Pair, pair}
-use Rattle.schur.specs.declared.run.Ran.TheVariants.{Ended}
 use Rattle.schur.specs.Run.{Left, ran_of}
 use Rattle.schur.proofs.Counting.{ended, reached}
 use Rattle.schur.proofs.Lent.{fresh_same}
-use Rattle.decomposition.specs.declared.Decomposed.{Decomposed}
 use Rattle.decomposition.specs.Checks.{argument_checks, result_checks}
 use Rattle.decomposition.specs.Decomposition.{verdict, entry_of, decomposed_told}
 use Rattle.decomposition.proofs.CheckedArguments.{Sizes, all_right, all_lent, sizes_run}
@@ -40,7 +38,7 @@ use Rattle.shape.specs.Vanished.{vanished}
 use Rattle.shape.proofs.Run.{ended_shape}
 
 -- what was looked at and found finite has a largest magnitude that is finite
-found_finite : (n : ℕ) (m : List Float) → n ≤ 64 → length m ≡ n * n → first_not_finite n m ≡ Nowhere → is_finite (largest m) ≡ true
+found_finite : (n : ℕ) (m : List Float) → n ≤ 64 → length m ≡ n * n → first_not_finite n m ≡ None → is_finite (largest m) ≡ true
 found_finite n m small size h =
     largest_finite m (λ p l. each_place (λ p. is_finite (m ! p) ≡ true) n (nowhere_finite n m small size h) p (omega arith))
 
@@ -56,7 +54,7 @@ only_eight asked p shape =
 -- ---- any entry whose checks tell the lengths, as those of the decomposition and of the decomposition in place do
 
 module _ (lengths : Checked) (asked : Setting) (budget : ℕ) (m : List Float) (p : Pair) (w : List Float)
-    (lent : lengths ≡ Passed → Sizes asked.order (length m) (length p.t) (length w)) where
+    (lent : lengths ≡ passed → Sizes asked.order (length m) (length p.t) (length w)) where
   abbrev checks : Checked
   checks = argument_checks lengths asked budget m
 
@@ -71,7 +69,7 @@ module _ (lengths : Checked) (asked : Setting) (budget : ℕ) (m : List Float) (
   axis_vanished = vanished asked budget m
 
   -- the run ended short of its budget, and no axis vanished: T has the shape by the run's own steps
-  pub run_shape : {c : ℕ} → checks ≡ Passed → axis_vanished ≡ false → ran.answer ≡ Ended c → QuasiTriangular asked.order ran.pair.t
+  pub run_shape : {c : ℕ} → checks ≡ passed → axis_vanished ≡ false → ran.answer ≡ Ok c → QuasiTriangular asked.order ran.pair.t
   run_shape h none e =
       let r = all_right _ _ _ _ h in
       let z = lent r.lent in
@@ -80,7 +78,7 @@ module _ (lengths : Checked) (asked : Setting) (budget : ℕ) (m : List Float) (
       subst (QuasiTriangular asked.order) (sym alone.t)
       (ended_shape asked budget m r.some r.order size (found_finite asked.order m r.order size r.entries) none (sym alone.answer ∙ e))
 
-  no_nine : checks ≡ Passed → axis_vanished ≡ false → (decomposed_told answer).number ≡ 9 → ⊥
+  no_nine : checks ≡ passed → axis_vanished ≡ false → (decomposed_told answer).number ≡ 9 → ⊥
   unfolding verdict told_of
   no_nine h none e =
       let d = told_declined answer 9 (omega arith) e in
@@ -95,7 +93,7 @@ module _ (lengths : Checked) (asked : Setting) (budget : ℕ) (m : List Float) (
       ]
 
   -- 9 after a run: so an axis was not zero, and its squares vanished
-  pub nine_vanished : checks ≡ Passed → (decomposed_told answer).number ≡ 9 → axis_vanished ≡ true
+  pub nine_vanished : checks ≡ passed → (decomposed_told answer).number ≡ 9 → axis_vanished ≡ true
   nine_vanished h e = go axis_vanished refl
     where
       go : (b : Bool) → axis_vanished ≡ b → b ≡ true

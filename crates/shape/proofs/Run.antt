@@ -1,5 +1,6 @@
 -- A run in which no axis vanished: every turn keeps the shape from the window's end on, so where its window closes T has the shape, and a run that ends
 -- short of its budget has closed its window. Assumes nothing.
+use Rattle.std.specs.Prelude.{Ok}
 use Prim.Native.Nat.{ℕ, ◌+◌, ◌-◌, ◌*◌, ◌<◌, ◌≤◌}
 use mathlib.Core.Bool.{Bool, true, false}
 use mathlib.Core.Path.{◌≡◌, refl, ap, ◌∙◌}
@@ -23,7 +24,6 @@ use Rattle.hessenberg.specs.Unpacked.{unpacked_h}
 use Rattle.hessenberg.proofs.Frames.{reduced-length, reduced_work, unpacked_h-length, unpacked_h-zero}
 use Rattle.pass.specs.declared.setting.Setting.{Setting}
 use Rattle.pass.specs.Pair.{Pair, pair}
-use Rattle.schur.specs.declared.run.Ran.TheVariants.{Ended}
 use Rattle.schur.specs.Run.{Running, closed, delimiting, turn_of, run_from, scaled_down, reduced_pair, opened, Left, answered, ran_of, fresh_ran, opened_of}
 use Rattle.schur.proofs.Counting.{opened_none, run_counted}
 use Rattle.schur.proofs.Lengths.{scaled_down-length}
@@ -99,11 +99,11 @@ small_shape n t l = record { far = λ i j h m. absurd (omega arith); near = λ k
 
 -- a run that ends short of its budget has closed its window
 answered_shape : {c : ℕ} (n budget : ℕ) (amax : Float) (r : Running) → is_finite amax ≡ true → SoundAt n r → (closed r ≡ false → r.state.passes ≡ budget)
-    → (answered budget amax r).answer ≡ Ended c → QuasiTriangular n (answered budget amax r).pair.t
+    → (answered budget amax r).answer ≡ Ok c → QuasiTriangular n (answered budget amax r).pair.t
 unfolding answered closed
 answered_shape {c} n budget amax r finite z counted =
     let w = r.state.window in
-    cond_both (λ (x : Left). x.answer ≡ Ended c → QuasiTriangular n x.pair.t) (eqb r.state.passes budget) _ _
+    cond_both (λ (x : Left). x.answer ≡ Ok c → QuasiTriangular n x.pair.t) (eqb r.state.passes budget) _ _
     (λ _ e. let q : ◌≡◌ {A = ℕ} 0 1 = cc in absurd (omega arith))
     (λ short _. scaled_shape n amax r.pair.t z.size finite (go (closed r) refl short))
   where
@@ -114,7 +114,7 @@ answered_shape {c} n budget amax r finite z counted =
 -- A run on a matrix of finite entries that ended short of its budget, and in which no axis was nonzero with squares that vanished, has the shape.
 pub ended_shape : {c : ℕ} (asked : Setting) (budget : ℕ) (t : List Float) → 1 ≤ asked.order → asked.order ≤ 64
     → length t ≡ asked.order * asked.order → is_finite (largest t) ≡ true
-    → vanished asked budget t ≡ false → (fresh_ran asked budget t).answer ≡ Ended c → QuasiTriangular asked.order (fresh_ran asked budget t).pair.t
+    → vanished asked budget t ≡ false → (fresh_ran asked budget t).answer ≡ Ok c → QuasiTriangular asked.order (fresh_ran asked budget t).pair.t
 unfolding ran_of vanished opened_of
 ended_shape {c} asked budget t some small size finite none = go (dec_lt asked.order 3)
   where
@@ -124,7 +124,7 @@ ended_shape {c} asked budget t some small size finite none = go (dec_lt asked.or
     first : Running
     first = opened asked memory (zeros (2 * asked.order))
 
-    go : Dec (asked.order < 3) → (fresh_ran asked budget t).answer ≡ Ended c → QuasiTriangular asked.order (fresh_ran asked budget t).pair.t
+    go : Dec (asked.order < 3) → (fresh_ran asked budget t).answer ≡ Ok c → QuasiTriangular asked.order (fresh_ran asked budget t).pair.t
     go (yes l) = λ _. small_shape asked.order _ (omega arith)
     go (no l) =
         let n = asked.order in

@@ -1,5 +1,5 @@
 -- Worked cases, by evaluation: bytes in, floats; floats, bytes out.
-use Rattle.std.specs.Prelude.{◌≡◌, refl, ℕ, List, [], ◌∷◌, ◌++◌, true, false, Float, pos}
+use Rattle.std.specs.Prelude.{◌≡◌, refl, ℕ, List, [], ◌∷◌, ◌++◌, true, false, Float, pos, Some}
 use Rattle.std.specs.Float.{nan, inf, fin}
 use Rattle.std.specs.Float.Ieee.{of_bits, to_bits}
 use Rattle.loops.specs.First.{first_from}
@@ -7,7 +7,6 @@ use Rattle.loops.specs.Table.{table}
 use Rattle.loops.specs.Until.{until}
 use Rattle.scalar.specs.Class.{is_finite}
 use Rattle.matrix.specs.Fits.{block_fits}
-use Rattle.refusal.specs.declared.search.Search.TheVariants.{At}
 use Rattle.refusal.specs.Refusal.{at}
 use Rattle.refusal.specs.Search.{first_row, first_col, first_place, not_finite, first_not_finite}
 use Rattle.words.specs.Words.{le64, byte_of}
@@ -40,7 +39,7 @@ unfolding three quiet floats bytes_of table byte_of to_bits
 written = refl
 
 -- of the matrix of order 2 that lies in them, column by column, the infinity is met first
-met : first_not_finite 2 (floats_of (three ++ payload)) ≡ At (at 0 1)
+met : first_not_finite 2 (floats_of (three ++ payload)) ≡ Some (at 0 1)
 unfolding three payload floats_of table le64 of_bits first_not_finite block_fits first_place first_col first_row
     first_from until not_finite is_finite
 met = refl

@@ -34,7 +34,7 @@ fn row_not_finite(b: &[u8], n: usize, j: usize) -> usize
 }
 
 // Column by column.
-fn place_not_finite(b: &[u8], n: usize) -> refusal::Search
+fn place_not_finite(b: &[u8], n: usize) -> Option<refusal::Place>
     requires { (n ≤ 64) × (length b.now / 8 ≡ n * n) }
     ensures { result ≡ first_place (not_finite n (floats_of b.now)) n }
 {
@@ -42,11 +42,11 @@ fn place_not_finite(b: &[u8], n: usize) -> refusal::Search
     while j < n {
         let i = row_not_finite(b, n, j);
         if i < n {
-            return refusal::Search::At(refusal::Place { row: i, col: j });
+            return Some(refusal::Place { row: i, col: j });
         }
         j = j + 1;
     }
-    refusal::Search::Nowhere
+    None
 }
 
 // The count, and one more where a pattern is not that of a finite number.
@@ -74,14 +74,14 @@ fn all_finite(b: &[u8]) -> bool
 }
 
 // The first pattern that is NaN or infinite: sought only where there is one.
-pub fn first_not_finite(b: &[u8], n: usize) -> refusal::Search
+pub fn first_not_finite(b: &[u8], n: usize) -> Option<refusal::Place>
     ensures { result ≡ first_not_finite n (floats_of b.now) }
 {
     if !matrix::block_fits(n, b.len() / 8, 0, n, 0, n) {
-        return refusal::Search::Nowhere;
+        return None;
     }
     if all_finite(b) {
-        return refusal::Search::Nowhere;
+        return None;
     }
     place_not_finite(b, n)
 }

@@ -1,6 +1,7 @@
 -- Worked cases of the run, by evaluation: patterns in, patterns out. T, Q and the count were computed by the plain
 -- model of the Rust, oracle/src/model.rs. a to g and m are matrices with known outcomes of document 01.
-use Rattle.std.specs.Prelude.{◌≡◌, refl, ℕ, ◌*◌, Bool, true, false, List, [], ◌∷◌, map}
+use Rattle.schur.specs.Run.{Ran}
+use Rattle.std.specs.Prelude.{◌≡◌, refl, ℕ, ◌*◌, Bool, true, false, List, [], ◌∷◌, map, Err, Ok}
 use Rattle.std.specs.Float.Ieee.{of_bits}
 use Rattle.std.specs.Float.{binary64}
 use Rattle.loops.specs.Constants.{one, epsilon}
@@ -8,16 +9,15 @@ use Rattle.loops.specs.Times.{times}
 use Rattle.matrix.specs.Known.{numbers, shown}
 use Rattle.pass.specs.Setting.{setting}
 use Rattle.pass.specs.Pair.{pair}
-use Rattle.schur.specs.declared.run.Ran.{Ran}
-use Rattle.schur.specs.declared.run.Ran.TheVariants.{Ended, BudgetReached, Unfit}
+use Rattle.schur.specs.declared.run.Stopped.TheVariants.{BudgetReached, Unfit}
 use Rattle.schur.specs.Run.{Left, run_of}
 use Rattle.schur.specs.Opened.{opened_schur, Case}
 
 -- 1 and the count; 2 with the window's start and end; 3 where something does not fit
 answer_of : Ran → List ℕ
-answer_of (Ended passes) = 1 ∷ passes ∷ []
-answer_of (BudgetReached w) = 2 ∷ w.start ∷ w.end ∷ []
-answer_of Unfit = 3 ∷ []
+answer_of (Ok passes) = 1 ∷ passes ∷ []
+answer_of (Err (BudgetReached w)) = 2 ∷ w.start ∷ w.end ∷ []
+answer_of (Err Unfit) = 3 ∷ []
 
 -- what the run answers, T and Q
 told : Left → List (List ℕ)

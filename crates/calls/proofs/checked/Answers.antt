@@ -1,4 +1,5 @@
 -- `calls::checked` meets its contract. Assumes nothing.
+use Rattle.std.specs.Prelude.{Err}
 use mathlib.Core.Path.{ap}
 use Rattle.calls.specs.declared.Answer.TheVariants.{Refused}
 use Rattle.calls.specs.Call.{checked_answer}
@@ -11,4 +12,4 @@ returns-in-Passed c = rw c.in-Passed.is
 pub returns-in-Refused : goal.returns-in-Refused
 unfolding checked_answer
 returns-in-Refused c =
-    rw c.in-Refused.is (ap Refused c.tell.ensures)
+    rw c.in-Refused.is (ap Err c.tell.ensures)

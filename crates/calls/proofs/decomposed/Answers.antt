@@ -1,4 +1,5 @@
 -- `calls::decomposed` meets its contract. Assumes nothing.
+use Rattle.std.specs.Prelude.{Err}
 use mathlib.Core.Path.{ap}
 use Rattle.calls.specs.declared.Answer.TheVariants.{Refused}
 use Rattle.calls.specs.Call.{decomposed_answer}
@@ -11,4 +12,4 @@ returns-in-Accepted c = rw c.in-Accepted.is
 pub returns-in-Declined : goal.returns-in-Declined
 unfolding decomposed_answer
 returns-in-Declined c =
-    rw c.in-Declined.is (ap Refused c.tell.ensures)
+    rw c.in-Declined.is (ap Err c.tell.ensures)

@@ -1,4 +1,5 @@
 -- `header::examine` meets its contract. Assumes nothing.
+use Rattle.std.specs.Prelude.{Err}
 use Prim.Native.Nat.{ℕ, ◌<◌, ◌≤◌}
 use mathlib.Core.Path.{◌≡◌}
 use mathlib.Core.List.{List}
@@ -6,12 +7,11 @@ use borrow.Author.Tests.{lt-ltb, le-ltb}
 use lib.ListN.{length}
 use Rattle.refusal.specs.declared.refusal.Refusal.TheVariants.{InputCutShort}
 use Rattle.refusal.specs.Refusal.{refuse, ◌next◌}
-use Rattle.header.specs.declared.Examined.TheVariants.{Unfit}
 use Rattle.header.specs.Record.{header_of, header_checks, record_checks, by_checks, examined}
 use Rattle.header.proofs.examine.Goals.{After-check}
 use Rattle.header.proofs.examine.Goals as goal
 
-short : (b : List ℕ) → length b < 20 → Unfit InputCutShort ≡ examined b
+short : (b : List ℕ) → length b < 20 → Err InputCutShort ≡ examined b
 unfolding examined by_checks record_checks refuse ◌next◌
 short b h = rw (lt-ltb _ _ h)
 

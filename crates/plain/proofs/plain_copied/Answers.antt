@@ -1,8 +1,8 @@
 -- `plain::plain_copied` meets its contract. Assumes nothing.
+use Rattle.refusal.specs.Refusal.{passed}
 use native.Mathlib.Omega.{arith}
 use mathlib.Core.Path.{ap, ◌∙◌}
 use Rattle.matrix.proofs.Copied.{copied_whole}
-use Rattle.refusal.specs.declared.refusal.Checked.TheVariants.{Passed}
 use Rattle.plain.specs.Plain.{plain_begun, kept}
 use Rattle.plain.proofs.plain_copied.Goals as goal
 
@@ -10,4 +10,4 @@ pub returns : goal.returns
 returns c =
     let x = c.args in
     ap (λ p. kept p) c.plain_any.ensures
-    ∙ ap (λ t. kept (plain_begun Passed x.n t x.values.now x.work.now)) (c.copy_from.ensures ∙ copied_whole _ _ (omega arith))
+    ∙ ap (λ t. kept (plain_begun passed x.n t x.values.now x.work.now)) (c.copy_from.ensures ∙ copied_whole _ _ (omega arith))

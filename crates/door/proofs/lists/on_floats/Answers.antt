@@ -1,4 +1,5 @@
 -- `door::lists::on_floats` meets its contract. Assumes nothing.
+use Rattle.refusal.specs.Refusal.{passed}
 use native.Mathlib.Omega.{arith}
 use mathlib.Core.Path.{◌≡◌, ap, ◌∙◌}
 use mathlib.Core.List.{List}
@@ -7,7 +8,6 @@ use lib.ListN.{length}
 use lib.Ieee.{Float}
 use Rattle.matrix.proofs.Each.{zeros-length}
 use Rattle.matrix.specs.Vectors.{zeros}
-use Rattle.refusal.specs.declared.refusal.Checked.TheVariants.{Passed}
 use Rattle.words.proofs.Between.{decoded}
 use Rattle.door.specs.declared.lists.ListEntry.{ListEntry}
 use Rattle.door.specs.declared.lists.ListEntry.TheVariants.{Complex}
@@ -26,7 +26,7 @@ write_list-requires c =
     omega (arith, (fit (goal.at.write_list-requires c).Start).list)
 
 -- the complex reader's second list, whose room has n numbers
-pair_sized : {e : ListEntry} (n jn : ℕ) (y : List Float) → e ≡ Complex → second_length e n jn ≡ Passed → y ≡ zeros (second_size e n) → jn ≡ 8 * length y
+pair_sized : {e : ListEntry} (n jn : ℕ) (y : List Float) → e ≡ Complex → second_length e n jn ≡ passed → y ≡ zeros (second_size e n) → jn ≡ 8 * length y
 unfolding second_size
 pair_sized n jn y h lent zero =
     let long : length y ≡ n = ap length (rw h at zero) ∙ zeros-length n in

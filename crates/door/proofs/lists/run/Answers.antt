@@ -1,9 +1,9 @@
 -- `door::lists::run` meets its contract. Assumes nothing.
+use Rattle.refusal.specs.Refusal.{passed}
 use native.Mathlib.Nat.{mul-le-mul}
 use mathlib.Core.Path.{◌≡◌, sym, ap, ◌∙◌}
 use mathlib.Core.List.{List}
 use Prim.Native.Nat.{ℕ}
-use Rattle.refusal.specs.declared.refusal.Checked.TheVariants.{Passed}
 use Rattle.door.specs.declared.lists.ListEntry.{ListEntry}
 use Rattle.door.specs.Lists.{list_checks, lists_bytes}
 use Rattle.door.proofs.lists.run.Goals as goal
@@ -13,7 +13,7 @@ small-requires c =
     record { order = c.if-c-le8.true; square = mul-le-mul c.if-c-le8.true c.if-c-le8.true; passed = c.requires }
 
 -- the same call, with what is known of its entry written out
-checked : {e known : ListEntry} (n : ℕ) (m : List ℕ) (rn jn : ℕ) → e ≡ known → list_checks e n m rn jn ≡ Passed → list_checks known n m rn jn ≡ Passed
+checked : {e known : ListEntry} (n : ℕ) (m : List ℕ) (rn jn : ℕ) → e ≡ known → list_checks e n m rn jn ≡ passed → list_checks known n m rn jn ≡ passed
 checked n m rn jn h passed = sym (ap (λ e. list_checks e n m rn jn) h) ∙ passed
 
 ran : {e known : ListEntry} (n : ℕ) (m re im : List ℕ) → e ≡ known → lists_bytes known n m re im ≡ lists_bytes e n m re im

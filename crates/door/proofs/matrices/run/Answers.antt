@@ -1,10 +1,10 @@
 -- `door::matrices::run` meets its contract. Assumes nothing.
+use Rattle.refusal.specs.Refusal.{passed}
 use native.Mathlib.Nat.{mul-le-mul}
 use mathlib.Core.Path.{◌≡◌, sym, ap, subst, ◌∙◌}
 use mathlib.Core.Bool.{Bool}
 use mathlib.Core.List.{List}
 use Prim.Native.Nat.{ℕ}
-use Rattle.refusal.specs.declared.refusal.Checked.TheVariants.{Passed}
 use Rattle.door.specs.declared.matrices.Request.{Request}
 use Rattle.door.specs.Matrices.{request, matrix_checks}
 use Rattle.door.specs.Inner.{MatricesDone}
@@ -18,7 +18,7 @@ small-requires c =
 abbrev known : Request → Bool → Request
 known r b = request r.order b r.tolerance r.budget
 
-checked : (r : Request) (m : List ℕ) (tn qn : ℕ) {b : Bool} → r.wanted ≡ b → matrix_checks r m tn qn ≡ Passed → matrix_checks (known r b) m tn qn ≡ Passed
+checked : (r : Request) (m : List ℕ) (tn qn : ℕ) {b : Bool} → r.wanted ≡ b → matrix_checks r m tn qn ≡ passed → matrix_checks (known r b) m tn qn ≡ passed
 checked r m tn qn h passed = sym (ap (λ b. matrix_checks (known r b) m tn qn) h) ∙ passed
 
 ran : (r : Request) {m q t' q' : List ℕ} {answer : ℕ} {b : Bool} → r.wanted ≡ b → MatricesDone (known r b) m q answer t' q'

@@ -1,11 +1,12 @@
 -- `pass::block::basis_columns` meets its contract. Assumes nothing.
+use Rattle.std.specs.Prelude.{Option}
+use Rattle.givens.specs.declared.Rotation.{Rotation}
 use mathlib.Core.Path.{◌≡◌, refl, sym, ap, ◌∙◌}
 use mathlib.Core.List.{List, [], ◌∷◌}
 use native.Mathlib.Omega.{arith}
 use borrow.Author.Tests.{eq-eqb, ne_eqb}
 use lib.ListN.{length, set, length-set}
 use lib.Ieee.{Float}
-use Rattle.pass.specs.declared.block.Basis.{Basis}
 use Rattle.pass.specs.Block.{columns_of, columns_in}
 use Rattle.pass.proofs.block.basis_columns.Goals as goal
 
@@ -19,7 +20,7 @@ four (_ ∷ _ ∷ _ ∷ _ ∷ []) a b x y h = refl
 four (_ ∷ _ ∷ _ ∷ _ ∷ _ ∷ q) a b x y h = absurd (omega arith)
 
 -- Q has order 2
-there : (b : Basis) (q x : List Float) → length q ≡ 4 → x ≡ columns_of b → x ≡ columns_in b q
+there : (b : Option Rotation) (q x : List Float) → length q ≡ 4 → x ≡ columns_of b → x ≡ columns_in b q
 unfolding columns_in
 there b q x h e = rw (eq-eqb _ _ h) e
 

@@ -1,11 +1,11 @@
 -- `pass::block::compute_2x2_basis` meets its contract. Assumes nothing.
+use Rattle.std.specs.Prelude.{Some}
 use mathlib.Core.Path.{◌≡◌, sym, ap, ◌∙◌}
 use mathlib.Core.Bool.{Bool, true, false, cond}
 use lib.Ieee.{lt}
 use Rattle.loops.specs.Rounded.{◌⊖◌}
 use Rattle.scalar.specs.Sign.{modulus_of}
 use Rattle.givens.specs.Rotation.{new_of}
-use Rattle.pass.specs.declared.block.Basis.TheVariants.{Rotate}
 use Rattle.pass.specs.Block.{basis_of}
 use Rattle.pass.proofs.BlockWays.{basis_triangular, basis_none, basis_made}
 use Rattle.pass.proofs.block.compute_2x2_basis.Goals.{After-modulus-2}
@@ -22,7 +22,7 @@ returns-in_default c =
 -- once the two candidates are compared
 made : (c : After-modulus-2) (d : Bool) → lt c.modulus-2.result c.modulus.result ≡ d
     → let m = c.args.m in let v = c.in-Real.eigvals in
-    Rotate (new_of (cond d (v.first ⊖ m.h11) (v.second ⊖ m.h11)) m.h10).rotation ≡ basis_of m
+    Some (new_of (cond d (v.first ⊖ m.h11) (v.second ⊖ m.h11)) m.h10).rotation ≡ basis_of m
 made c d h =
     let m = c.args.m in
     let v = c.in-Real.eigvals in
@@ -33,7 +33,7 @@ made c d h =
 
 pub returns-then-modulus : goal.returns-then-modulus
 returns-then-modulus c =
-    ap (λ turn. Rotate turn.rotation) c.new.ensures ∙ made (goal.at.returns-then-modulus c).After-modulus-2 true c.if-modulus.true
+    ap (λ turn. Some turn.rotation) c.new.ensures ∙ made (goal.at.returns-then-modulus c).After-modulus-2 true c.if-modulus.true
 
 pub returns : goal.returns
-returns c = ap (λ turn. Rotate turn.rotation) c.new-2.ensures ∙ made (goal.at.returns c).After-modulus-2 false c.if-modulus.false
+returns c = ap (λ turn. Some turn.rotation) c.new-2.ensures ∙ made (goal.at.returns c).After-modulus-2 false c.if-modulus.false

@@ -1,12 +1,12 @@
 -- `record::text::answer` meets its contract. Assumes nothing.
+use Rattle.std.specs.Prelude.{Ok, Result}
+use Rattle.refusal.specs.declared.refusal.Refusal.{Refusal}
 use Prim.Native.Nat.{ℕ, ◌-◌}
 use mathlib.Core.Path.{◌≡◌, refl, sym, ap, ◌∙◌}
 use mathlib.Core.List.{List}
 use native.Mathlib.Omega.{arith}
 use lib.ListN.{length, take, drop, length-drop}
 use lib.Seq.{length-take-le, take_all}
-use Rattle.header.specs.declared.Examined.{Examined}
-use Rattle.header.specs.declared.Examined.TheVariants.{Fit}
 use Rattle.header.specs.declared.Header.{Header}
 use Rattle.header.specs.Record.{examined}
 use Rattle.header.proofs.FitHeader.{FitHeader, fit_header}
@@ -15,7 +15,7 @@ use Rattle.record.proofs.Paging.{put_as, put_within, all_printed, none_printed}
 use Rattle.record.proofs.text.answer.Goals as goal
 
 -- a record without fault is as long as its order says
-fit : {x : Examined} {h : Header} (b : List ℕ) → x ≡ examined b → x ≡ Fit h → FitHeader h (length b)
+fit : {x : Result Header Refusal} {h : Header} (b : List ℕ) → x ≡ examined b → x ≡ Ok h → FitHeader h (length b)
 fit b e f = fit_header _ (sym e ∙ f)
 
 -- all that lies behind a header
@@ -23,7 +23,7 @@ entries : (b : List ℕ) → take (length b - 20) (drop 20 b) ≡ drop 20 b
 entries b = take_all (length b - 20) (drop 20 b) (omega (arith, length-drop 20 b))
 
 -- the text by what was found of the header
-text_by : {x : Examined} (b : List ℕ) → x ≡ examined b → examined_text x b ≡ text_of b
+text_by : {x : Result Header Refusal} (b : List ℕ) → x ≡ examined b → examined_text x b ≡ text_of b
 unfolding text_of
 text_by b e = ap (λ x. examined_text x b) e
 

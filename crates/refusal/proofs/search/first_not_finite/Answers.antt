@@ -1,4 +1,5 @@
 -- `refusal::search::first_not_finite` meets its contract. Assumes nothing.
+use Rattle.std.specs.Prelude.{None}
 use native.Mathlib.Omega.{arith}
 use Prim.Native.Nat.{ℕ, ◌*◌, ◌<◌, ◌≤◌}
 use mathlib.Core.Bool.{true, not}
@@ -11,7 +12,6 @@ use Rattle.loops.specs.Rounded.{◌!◌}
 use Rattle.scalar.specs.Class.{is_finite}
 use Rattle.matrix.specs.Fits.{block_fits}
 use Rattle.matrix.proofs.Fitting.{within, inside, outside, from_row_0, from_column_0}
-use Rattle.refusal.specs.declared.search.Search.TheVariants.{Nowhere}
 use Rattle.refusal.specs.Search.{first_place, not_finite, first_not_finite}
 use Rattle.refusal.proofs.Searching.{none_nowhere}
 use Rattle.refusal.proofs.search.first_not_finite.Goals.{After-block_fits}
@@ -21,7 +21,7 @@ whole : (c : After-block_fits) → let x = c.args in c.block_fits.result ≡ blo
 whole c = from_row_0 _ _ _ _ (from_column_0 _ _ _ _ c.block_fits.ensures)
 
 -- all entries are finite, so there is none to find
-none : (n : ℕ) (t : List Float) → n ≤ 64 → length t ≡ n * n → ((k : ℕ) → k < length t → is_finite (t ! k) ≡ true) → Nowhere ≡ first_place (not_finite n t) n
+none : (n : ℕ) (t : List Float) → n ≤ 64 → length t ≡ n * n → ((k : ℕ) → k < length t → is_finite (t ! k) ≡ true) → None ≡ first_place (not_finite n t) n
 unfolding not_finite
 none n t h e finite = sym (none_nowhere _ n (λ i j k l. ap not (finite _ (omega (arith, placed n i j h k l)))))
 

@@ -1,4 +1,5 @@
 -- `words::search::first_not_finite` meets its contract. Assumes nothing.
+use Rattle.std.specs.Prelude.{None}
 use native.Mathlib.Omega.{arith}
 use Prim.Native.Nat.{ℕ, ◌*◌, ◌/◌, ◌<◌, ◌≤◌}
 use mathlib.Core.Bool.{true, not}
@@ -10,7 +11,6 @@ use Rattle.loops.specs.Rounded.{◌!◌}
 use Rattle.scalar.specs.Class.{is_finite}
 use Rattle.matrix.specs.Fits.{block_fits}
 use Rattle.matrix.proofs.Fitting.{within, inside, outside, from_row_0, from_column_0}
-use Rattle.refusal.specs.declared.search.Search.TheVariants.{Nowhere}
 use Rattle.refusal.specs.Search.{first_place, not_finite, first_not_finite}
 use Rattle.refusal.proofs.Searching.{none_nowhere}
 use Rattle.words.specs.Floats.{floats_of}
@@ -23,7 +23,7 @@ whole c = from_row_0 _ _ _ _ (from_column_0 _ _ _ _ c.block_fits.ensures)
 
 -- all entries are finite, so there is none to find
 none : (n : ℕ) (b : List ℕ) → n ≤ 64 → length b / 8 ≡ n * n → ((k : ℕ) → k < length b / 8 → is_finite (floats_of b ! k) ≡ true)
-    → Nowhere ≡ first_place (not_finite n (floats_of b)) n
+    → None ≡ first_place (not_finite n (floats_of b)) n
 unfolding not_finite
 none n b h e finite = sym (none_nowhere _ n (λ i j k l. ap not (finite _ (omega (arith, placed n i j h k l)))))
 
