@@ -34,6 +34,17 @@ pub next_refused : {r : Refusal} (c d : Checked) → c ≡ Err r → (c next d) 
 unfolding ◌next◌
 next_refused c d h = rw h
 
+-- In code: what is behind a check, where it has passed and where it has refused.
+pub next_ok : (u : Unit {0}) (d : Checked) → (Ok u next d) ≡ d
+unfolding ◌next◌
+next_ok u d = refl
+
+pub next_err : (r : Refusal) (d : Checked) → (Err r next d) ≡ Err r
+unfolding ◌next◌
+next_err r d = refl
+
+pub ruleset in_turn = (next_ok, next_err)
+
 -- In code: a check has come to x, which is what c says. If it refuses, that is what c and all behind it come to; if it passes, they come to what is left.
 pub next_first : {r : Refusal} {x c : Checked} (d : Checked) → x ≡ c → x ≡ Err r → x ≡ (c next d)
 next_first {x = x} {c = c} d e h = h ∙ sym (next_refused c d (sym e ∙ h))

@@ -1,5 +1,7 @@
 // The checks that several entries make, each with the refusal that it comes to. Those who make several in turn
 // answer the first that does not pass.
+#![tactic(auto, using(crate::proofs::ChecksInTurn::in_turn), unfolding(crate::specs::Checks::order_checks, crate::specs::Checks::length_check, crate::specs::Checks::only_if, crate::specs::Checks::lent_lengths, crate::specs::Checks::matrix_lengths, crate::specs::Checks::entry_checks, crate::specs::Checks::given_checks, crate::specs::Refusal::refuse, crate::specs::Refusal::refuse_at))]
+
 ghost use Rattle.std.specs.Prelude.{◌≡◌, length, ◌*◌};
 ghost use Rattle.refusal.specs.declared.refusal.Refusal.TheVariants.{WrongLength, ResultNotFinite, ShapeSpoiled};
 ghost use Rattle.refusal.specs.Refusal.{refuse_at, ◌next◌};
@@ -45,7 +47,13 @@ pub fn check_lent(wanted: bool, needs: usize, tn: usize, qn: usize) -> Result<()
 }
 
 // The matrix, then what is lent for T and Q.
-pub fn check_matrices(wanted: bool, needs: usize, mn: usize, tn: usize, qn: usize) -> Result<(), Refusal>
+pub fn check_matrices(
+    wanted: bool,
+    needs: usize,
+    mn: usize,
+    tn: usize,
+    qn: usize,
+) -> Result<(), Refusal>
     ensures { result ≡ matrix_lengths wanted needs mn tn qn }
 {
     check_length(mn, needs, Refusal::WrongLength)?;
