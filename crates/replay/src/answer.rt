@@ -11,20 +11,18 @@ pub(crate) struct Stored {
 // A refusal's number, row and column; 0, the passes and 0; or, where values were given, zeros.
 pub(crate) fn as_stored(a: Answer) -> Stored {
     match a {
-        Answer::Passes(passes) => Stored {
+        Ok(passes) => Stored {
             first: 0,
-            second: passes,
+            second: passes.unwrap_or(0),
             third: 0,
         },
-        Answer::Values => Stored {
-            first: 0,
-            second: 0,
-            third: 0,
-        },
-        Answer::Refused(t) => Stored {
-            first: t.number,
-            second: t.row as u64,
-            third: t.col as u64,
-        },
+        Err(r) => {
+            let t = refusal::tell(r);
+            Stored {
+                first: t.number,
+                second: t.row as u64,
+                third: t.col as u64,
+            }
+        }
     }
 }
