@@ -1,5 +1,5 @@
 -- The numbers of document 01's table: number and place tell the refusal. Assumes nothing.
-use Rattle.std.specs.Prelude.{Err}
+use Rattle.std.specs.Prelude.{Err, Ok}
 use Rattle.refusal.specs.Refusal.{Checked, passed}
 use Prim.Native.Nat.{ℕ, ◌≤◌}
 use mathlib.Core.Bool.{cond}
@@ -87,10 +87,10 @@ told_range InputLengthWrong = (omega arith, omega arith)
 
 pub none_told : {c : Checked} → (checked_told c).number ≡ 0 → c ≡ passed
 unfolding checked_told
-none_told {c = passed} e = refl
+none_told {c = Ok u} e = refl
 none_told {c = Err r} e = let some = (told_range r).0 in absurd (omega arith)
 
 pub ten_told : {c : Checked} → (checked_told c).number ≡ 10 → c ≡ Err ComplexEigenvalues
 unfolding checked_told
-ten_told {c = passed} e = absurd (omega arith)
+ten_told {c = Ok u} e = absurd (omega arith)
 ten_told {c = Err r} e = ap Err (told_ten e)

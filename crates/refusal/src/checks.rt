@@ -11,6 +11,7 @@ use crate::refusal::Refusal;
 use crate::search::{first_not_finite, first_spoiling};
 
 // The order is 0: 1. It is above 64: 2.
+#[tactic(auto, using(crate::proofs::ChecksInTurn::in_turn), unfolding(crate::specs::Checks::order_checks))]
 pub fn check_order(n: usize) -> Result<(), Refusal>
     ensures { result ≡ order_checks n }
 {
@@ -24,6 +25,7 @@ pub fn check_order(n: usize) -> Result<(), Refusal>
 }
 
 // What is lent has another length than it needs.
+#[tactic(auto, using(crate::proofs::ChecksInTurn::in_turn), unfolding(crate::specs::Checks::length_check))]
 pub fn check_length(has: usize, needs: usize, fault: Refusal) -> Result<(), Refusal>
     ensures { result ≡ length_check fault has needs }
 {
@@ -34,6 +36,7 @@ pub fn check_length(has: usize, needs: usize, fault: Refusal) -> Result<(), Refu
 }
 
 // What is lent for T, then for Q if it is wanted.
+#[tactic(auto, using(crate::proofs::ChecksInTurn::in_turn), unfolding(crate::specs::Checks::lent_lengths, crate::specs::Checks::only_if))]
 pub fn check_lent(wanted: bool, needs: usize, tn: usize, qn: usize) -> Result<(), Refusal>
     ensures { result ≡ lent_lengths wanted needs tn qn }
 {
@@ -45,7 +48,14 @@ pub fn check_lent(wanted: bool, needs: usize, tn: usize, qn: usize) -> Result<()
 }
 
 // The matrix, then what is lent for T and Q.
-pub fn check_matrices(wanted: bool, needs: usize, mn: usize, tn: usize, qn: usize) -> Result<(), Refusal>
+#[tactic(auto, using(crate::proofs::ChecksInTurn::in_turn), unfolding(crate::specs::Checks::matrix_lengths))]
+pub fn check_matrices(
+    wanted: bool,
+    needs: usize,
+    mn: usize,
+    tn: usize,
+    qn: usize,
+) -> Result<(), Refusal>
     ensures { result ≡ matrix_lengths wanted needs mn tn qn }
 {
     check_length(mn, needs, Refusal::WrongLength)?;
@@ -53,6 +63,7 @@ pub fn check_matrices(wanted: bool, needs: usize, mn: usize, tn: usize, qn: usiz
 }
 
 // The order, then the lengths: the matrix's, and what the others have come to.
+#[tactic(auto, using(crate::proofs::ChecksInTurn::in_turn))]
 pub fn check_sizes(n: usize, mn: usize, others: Result<(), Refusal>) -> Result<(), Refusal>
     ensures { result ≡ (order_checks n next length_check WrongLength mn (n * n) next others) }
 {
@@ -62,6 +73,7 @@ pub fn check_sizes(n: usize, mn: usize, others: Result<(), Refusal>) -> Result<(
 }
 
 // An entry handed in is NaN or infinite: 6.
+#[tactic(auto, using(crate::proofs::ChecksInTurn::in_turn), unfolding(crate::specs::Checks::entry_checks))]
 pub fn check_entries(m: &[f64], n: usize) -> Result<(), Refusal>
     ensures { result ≡ entry_checks n m.now }
 {
@@ -72,6 +84,7 @@ pub fn check_entries(m: &[f64], n: usize) -> Result<(), Refusal>
 }
 
 // The order, the lengths, the entries; `others` are the lengths of what is lent beside the matrix.
+#[tactic(auto, using(crate::proofs::ChecksInTurn::in_turn), unfolding(crate::specs::Checks::given_checks))]
 pub fn check_given(m: &[f64], n: usize, others: Result<(), Refusal>) -> Result<(), Refusal>
     ensures { result
         ≡ given_checks (length_check WrongLength (length m.now) (n * n) next others) n m.now }
@@ -81,6 +94,7 @@ pub fn check_given(m: &[f64], n: usize, others: Result<(), Refusal>) -> Result<(
 }
 
 // An entry that was worked out is NaN or infinite: 8.
+#[tactic(auto, using(crate::proofs::ChecksInTurn::in_turn))]
 pub fn check_result(t: &[f64], n: usize) -> Result<(), Refusal>
     ensures { result ≡ refuse_at ResultNotFinite (first_not_finite n t.now) }
 {
@@ -91,6 +105,7 @@ pub fn check_result(t: &[f64], n: usize) -> Result<(), Refusal>
 }
 
 // An entry spoils the quasi-triangular shape: 9.
+#[tactic(auto, using(crate::proofs::ChecksInTurn::in_turn))]
 pub fn check_shape(t: &[f64], n: usize) -> Result<(), Refusal>
     ensures { result ≡ refuse_at ShapeSpoiled (first_spoiling n t.now) }
 {

@@ -51,6 +51,7 @@ fn without_place(number: u64) -> Told
     with_place(number, Place { row: 0, col: 0 })
 }
 
+#[tactic(auto, unfolding(crate::specs::Refusal::told_of))]
 pub fn tell(r: Refusal) -> Told
     ensures { result ≡ told_of r }
 {
