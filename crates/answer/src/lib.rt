@@ -7,6 +7,7 @@ ghost use Rattle.answer.specs.Answer.{packed, refusal_number, checked_number, de
 use refusal::{Refusal, Told};
 
 // The lowest 16 bits of each part, which is all that a part has.
+#[tactic(auto, unfolding(crate::specs::Answer::packed))]
 fn pack(x: Told) -> u64
     ensures { result ≡ packed x }
 {
@@ -15,12 +16,14 @@ fn pack(x: Told) -> u64
     x.number % 65536 * 4294967296 + row * 65536 + col
 }
 
+#[tactic(auto, unfolding(crate::specs::Answer::packed, crate::specs::Answer::refusal_number))]
 pub fn refusal_number(r: Refusal) -> u64
     ensures { result ≡ refusal_number r }
 {
     pack(refusal::tell(r))
 }
 
+#[tactic(auto, unfolding(crate::specs::Answer::checked_number))]
 pub fn checked_number(c: Result<(), Refusal>) -> u64
     ensures { result ≡ checked_number c }
 {
@@ -30,11 +33,9 @@ pub fn checked_number(c: Result<(), Refusal>) -> u64
     }
 }
 
+#[tactic(auto, unfolding(crate::specs::Answer::decomposed_number))]
 pub fn decomposed_number(d: Result<u64, Refusal>) -> u64
     ensures { result ≡ decomposed_number d }
 {
-    match d {
-        Ok(passes) => passes,
-        Err(r) => refusal_number(r),
-    }
+    d.unwrap_or_else(refusal_number)
 }

@@ -16,7 +16,7 @@ use Rattle.decomposition.specs.Decomposition.{outcome, decomposition_of}
 use Rattle.eigenvalues.specs.Readers.{read, real_read, complexly, complex_read}
 use Rattle.plain.specs.Plain.{plain, plain_of}
 use Rattle.calls.specs.declared.Entry.TheVariants.{Real, Complex, Plain}
-use Rattle.calls.specs.declared.Answer.{Answer}
+use Rattle.calls.specs.Call.{Answer}
 use Rattle.calls.specs.declared.Call.{Call}
 use Rattle.calls.specs.Call.{came, decomposed_answer, checked_answer, with_or_without_q, rooted, by_entry, call_of}
 
@@ -36,9 +36,9 @@ module _ (c : Call) (m x y z : List Float) (r : Answer) where
     unfolding by_entry
     complex_came x' y' e p = rw (e, k) (ap (λ o. came (checked_answer o.answer) o.re o.im z) p)
 
-    pub plain-came : (x' y' : List Float) → c.entry ≡ Plain → plain h x' y' ≡ plain_of c.order m x y → came r x' y' z ≡ call_of c m x y z
+    pub plain_came : (x' y' : List Float) → c.entry ≡ Plain → plain h x' y' ≡ plain_of c.order m x y → came r x' y' z ≡ call_of c m x y z
     unfolding by_entry
-    plain-came x' y' e p = rw (e, k) (ap (λ o. came (checked_answer o.answer) o.values o.work z) p)
+    plain_came x' y' e p = rw (e, k) (ap (λ o. came (checked_answer o.answer) o.values o.work z) p)
 
 -- ---- the root, by the lengths that the code tests
 

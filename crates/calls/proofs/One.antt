@@ -7,7 +7,7 @@ use borrow.Fn.Kinds.{Dens, ended_of}
 use denote.Triple.Clauses.{AtExit}
 use lib.Ieee.{Float}
 use Rattle.loops.specs.One.{one_answer}
-use Rattle.calls.specs.declared.Answer.{Answer}
+use Rattle.calls.specs.Call.{Answer}
 use Rattle.calls.proofs.run.Kinds as kinds
 use Rattle.calls.proofs.run.Reads as reads
 

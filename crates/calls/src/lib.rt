@@ -7,7 +7,7 @@ ghost use Rattle.std.specs.Prelude.{◌≡◌};
 ghost use Rattle.calls.specs.Call.{decomposed_answer, checked_answer, came, with_or_without_q, rooted, call_of};
 
 use pass::Setting;
-use refusal::{Refusal, Told};
+use refusal::Refusal;
 
 // The decomposition with Q and without, the readers of a T, the plain entry, the square root.
 #[derive(Clone, Copy)]
@@ -20,13 +20,8 @@ pub enum Entry {
     Root,
 }
 
-// What is answered: the passes of an accepted decomposition; that values were given, by any other entry; or a refusal.
-#[derive(Clone, Copy)]
-pub enum Answer {
-    Passes(u64),
-    Values,
-    Refused(Told),
-}
+// What is answered: the passes of an accepted decomposition, None where any other entry gave its values, or a refusal.
+pub type Answer = Result<Option<u64>, Refusal>;
 
 // Which entry, and what it is asked for: the readers and the plain entry look at the order alone, the root at nothing.
 #[derive(Clone, Copy)]
@@ -37,22 +32,18 @@ pub struct Call {
     pub budget: u64,
 }
 
+#[tactic(auto, unfolding(crate::specs::Call::decomposed_answer))]
 fn decomposed(d: Result<u64, Refusal>) -> Answer
     ensures { result ≡ decomposed_answer d }
 {
-    match d {
-        Ok(passes) => Answer::Passes(passes),
-        Err(r) => Answer::Refused(refusal::tell(r)),
-    }
+    d.map(Some)
 }
 
+#[tactic(auto, unfolding(crate::specs::Call::checked_answer))]
 fn checked(c: Result<(), Refusal>) -> Answer
     ensures { result ≡ checked_answer c }
 {
-    match c {
-        Ok(()) => Answer::Values,
-        Err(r) => Answer::Refused(refusal::tell(r)),
-    }
+    c.map(|()| None)
 }
 
 fn decompose(
@@ -75,24 +66,21 @@ fn decompose(
 }
 
 // The root of the first number that is given becomes the first that is lent. Where one is missing, nothing is done.
+#[tactic(auto, using(crate::proofs::Calling::none_given, crate::proofs::Calling::none_lent, crate::proofs::Calling::root_put,))]
 fn root(m: &[f64], x: &mut [f64])
     ensures { x.new ≡ rooted m.now x.old }
 {
-    if m.len() == 0 {
-        return;
+    if !m.is_empty() && !x.is_empty() {
+        x[0] = scalar::sqrt(m[0]);
     }
-    if x.len() == 0 {
-        return;
-    }
-    x[0] = scalar::sqrt(m[0]);
 }
 
+#[tactic(auto, unfolding(crate::specs::Call::by_entry))]
 pub fn run(c: Call, m: &[f64], x: &mut [f64], y: &mut [f64], z: &mut [f64]) -> Answer
     ensures { came result x.new y.new z.new
         ≡ call_of c m.now x.old y.old z.old }
 {
-    let entry = c.entry;
-    match entry {
+    match c.entry {
         Entry::WithQ => decompose(c, true, m, x, y, z),
         Entry::WithoutQ => decompose(c, false, m, x, y, z),
         Entry::Real => checked(eigenvalues::eigenvalues(m, c.order, x)),
@@ -100,7 +88,7 @@ pub fn run(c: Call, m: &[f64], x: &mut [f64], y: &mut [f64], z: &mut [f64]) -> A
         Entry::Plain => checked(plain::plain_eigenvalues(m, c.order, x, y)),
         Entry::Root => {
             root(m, x);
-            Answer::Values
+            Ok(None)
         }
     }
 }

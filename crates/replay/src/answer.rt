@@ -9,9 +9,11 @@ pub(crate) struct Stored(pub(crate) [u64; 3]);
 impl From<Answer> for Stored {
     fn from(a: Answer) -> Stored {
         Stored(match a {
-            Answer::Passes(passes) => [0, passes, 0],
-            Answer::Values => [0, 0, 0],
-            Answer::Refused(t) => [t.number, t.row as u64, t.col as u64],
+            Ok(passes) => [0, passes.unwrap_or(0), 0],
+            Err(r) => {
+                let t = refusal::tell(r);
+                [t.number, t.row as u64, t.col as u64]
+            }
         })
     }
 }
