@@ -3,9 +3,8 @@ use Rattle.std.proofs.Common.{◌≡◌, ℕ, ◌-◌, ◌<◌, ◌≤◌, List,
 use Rattle.std.proofs.Math.Seq.{length_front}
 use Rattle.std.specs.declared.result.Result.{Result}
 use Rattle.std.specs.declared.io.Error.{Error}
-use Rattle.reading.specs.declared.Reading.{Reading}
-use Rattle.reading.specs.declared.Reading.TheVariants.{More, End, Broken}
-use Rattle.reading.specs.declared.Filled.TheVariants.{Bytes, Failed}
+use Rattle.std.specs.Prelude.{Ok, Err, Some, None}
+use Rattle.std.specs.declared.option.Option.{Option}
 use Rattle.reading.specs.Reading.{Read, asked, after_read, put_behind, fill_of, Filling}
 use Rattle.reading.proofs.Arriving.{Came, came}
 use Rattle.reading.proofs.Filling.{full, on_more, on_end, on_broken}
@@ -19,13 +18,13 @@ pub record Going (entry buf piece : List ℕ) (done : ℕ) : Type 0 where
   pub reads : (rest : List Read) → (all : List Read) × (fill_of all 0 entry ≡ fill_of rest done buf)
 
 -- no room is left
-pub filled : {entry buf piece : List ℕ} {done : ℕ} → Going entry buf piece done → length buf ≤ done → Filling entry (Bytes done) buf
+pub filled : {entry buf piece : List ℕ} {done : ℕ} → Going entry buf piece done → length buf ≤ done → Filling entry (Ok done) buf
 filled {buf = buf} {done = done} going h = let all = going.reads [] in record { reads = all.0; made = all.1 ∙ full [] done buf h }
 
 -- a read that was lent `room` bytes, and what its answer came to
-module _ (buf : List ℕ) (done room : ℕ) (got : Result ℕ Error) {y : Reading} (space : done < length buf) (lent : room ≡ asked done buf)
+module _ (buf : List ℕ) (done room : ℕ) (got : Result ℕ Error) {y : Result (Option ℕ) Error} (space : done < length buf) (lent : room ≡ asked done buf)
     (told : y ≡ after_read done room got) where
-  pub arrived : {more : ℕ} → y ≡ More more → Came done room more
+  pub arrived : {more : ℕ} → y ≡ Ok (Some more) → Came done room more
   arrived e = came done room got _ (omega arith) (sym e ∙ told)
 
   decided : after_read done (asked done buf) got ≡ y
@@ -42,7 +41,7 @@ module _ (buf : List ℕ) (done room : ℕ) (got : Result ℕ Error) {y : Readin
     abbrev made : Read
     made = record { got = got; piece = left; size = left_size }
 
-    pub again : {more : ℕ} {next : List ℕ} → y ≡ More more → next ≡ put_behind done buf left (more - done) → length next ≡ length buf
+    pub again : {more : ℕ} {next : List ℕ} → y ≡ Ok (Some more) → next ≡ put_behind done buf left (more - done) → length next ≡ length buf
         → Going entry next left more
     again {more} {next} e put same =
         let some : Came done room more = arrived e in
@@ -55,12 +54,12 @@ module _ (buf : List ℕ) (done room : ℕ) (got : Result ℕ Error) {y : Readin
               (all.0, all.1 ∙ on_more made rest done buf space more _ next (decided ∙ e) put refl);
         }
 
-    pub ending : y ≡ End → Filling entry (Bytes done) buf
+    pub ending : y ≡ Ok None → Filling entry (Ok done) buf
     ending e =
         let all = going.reads (made ∷ []) in
         record { reads = all.0; made = all.1 ∙ on_end made [] done buf space (decided ∙ e) }
 
-    pub failing : {why : Error} → y ≡ Broken why → Filling entry (Failed why) buf
+    pub failing : {why : Error} → y ≡ Err why → Filling entry (Err why) buf
     failing e =
         let all = going.reads (made ∷ []) in
         record { reads = all.0; made = all.1 ∙ on_broken made [] done buf space (decided ∙ e) }

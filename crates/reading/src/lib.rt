@@ -2,56 +2,23 @@
 // bytes than there is room for, and is no end for that.
 #![tactic(auto)]
 
-ghost use Rattle.std.specs.Prelude.{◌≡◌, ◌+◌, ◌<◌, ◌≤◌, ◌^◌, min, length};
+ghost use Rattle.std.specs.Prelude.{◌≡◌, ◌+◌, ◌<◌, ◌≤◌, ◌^◌, length};
 ghost use Rattle.reading.specs.Reading.{after_read, put_behind, Filling};
 
 use std::io;
 use std::io::Read;
 
-// What one read comes to: more bytes, all in all so many; the end of the input; or it failed, and why.
-#[derive(Clone, Copy)]
-pub enum Reading {
-    More(usize),
-    End,
-    Broken(io::Error),
-}
-
-// What all of them come to: so many bytes, or one failed, and why.
-#[derive(Clone, Copy)]
-pub enum Filled {
-    Bytes(usize),
-    Failed(io::Error),
-}
-
-// `done` bytes were there, there was room for `room` more, and a read answered `got`.
-fn after_read(done: usize, room: usize, got: io::Result<usize>) -> Reading
+// How many bytes are there after one read: `done` were there, there was room for `room` more, and the read answered
+// `got`. None at the end of the input.
+fn after_read(done: usize, room: usize, got: io::Result<usize>) -> io::Result<Option<usize>>
     requires { done + room < 2 ^ 64 }
     ensures { result ≡ after_read done room got }
 {
-    let came = match got {
-        Ok(n) => n,
-        Err(e) => return Reading::Broken(e),
-    };
+    let came = got?;
     if came == 0 {
-        return Reading::End;
+        return Ok(None);
     }
-    if came < room {
-        return Reading::More(done + came);
-    }
-    Reading::More(done + room)
-}
-
-fn least(a: usize, b: usize) -> usize
-    ensures { result ≡ min a b }
-{
-    if a < b { a } else { b }
-}
-
-// A piece for reads to bring their bytes in.
-fn fresh_piece() -> [u8; 4096]
-    ensures { length result ≡ 4096 }
-{
-    [0; 4096]
+    Ok(Some(done + came.min(room)))
 }
 
 // The first n bytes of a piece, put into the room from `done` on.
@@ -63,25 +30,21 @@ fn put(buf: &mut [u8], done: usize, piece: &[u8], n: usize)
     buf[done..done + n].copy_from_slice(&piece[..n]);
 }
 
-// A read is lent a piece and not `buf`, and the bytes that its answer counts are copied: what else it does to the piece
-// does not reach `buf`.
-pub fn fill<R: Read>(source: &mut R, buf: &mut [u8]) -> Filled
+// How many bytes all reads bring. A read is lent a piece and not `buf`, and the bytes that its answer counts are
+// copied: what else it does to the piece does not reach `buf`.
+pub fn fill<R: Read>(source: &mut R, buf: &mut [u8]) -> io::Result<usize>
     ensures { Filling buf.old result buf.new }
 {
-    let mut piece = fresh_piece();
+    let mut piece = [0; 4096];
     let mut done = 0;
     while done < buf.len() {
-        let room = least(buf.len() - done, 4096);
+        let room = (buf.len() - done).min(4096);
         let got = source.read(&mut piece[..room]);
-        match after_read(done, room, got) {
-            Reading::More(more) => {
-                let n = more - done;
-                put(buf, done, &piece, n);
-                done = more;
-            }
-            Reading::End => return Filled::Bytes(done),
-            Reading::Broken(e) => return Filled::Failed(e),
-        }
+        let Some(more) = after_read(done, room, got)? else {
+            return Ok(done);
+        };
+        put(buf, done, &piece, more - done);
+        done = more;
     }
-    Filled::Bytes(done)
+    Ok(done)
 }
