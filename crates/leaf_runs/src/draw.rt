@@ -1,5 +1,4 @@
 // The numbers that every call is given. Each is one of the patterns below: which, goes by a seed and by its place.
-ghost use Rattle.std.specs.Prelude.{◌≡◌, length};
 
 const PATTERNS: [u64; 44] = [
     // 0 to 22, of ordinary size: 1, -1, 2, -3, 0.5, -0.25, 0.1, -0.7, 1/3, pi, -e, 0.001, -1.5, 6.6, 9.7, -12.3,
@@ -77,24 +76,15 @@ fn pattern(kind: usize, k: usize) -> usize {
     }
 }
 
-fn zeros() -> [f64; 81]
-    ensures { 81 ≡ length result }
-{
-    [0.0; 81]
-}
-
 fn fill(v: &mut [f64], seed: usize) {
-    for i in 0..v.len() {
-        v[i] = drawn(seed, i);
+    for (i, x) in v.iter_mut().enumerate() {
+        *x = drawn(seed, i);
     }
 }
 
-// The first 81 numbers of a seed: a call is given some of them, order 9 at most. The `ensures` has the length and no
-// more: so a caller's proof does not carry 81 numbers along.
-pub(crate) fn numbers_of(seed: usize) -> [f64; 81]
-    ensures { 81 ≡ length result }
-{
-    let mut v = zeros();
+// The first 81 numbers of a seed: a call is given some of them, order 9 at most.
+pub(crate) fn numbers_of(seed: usize) -> [f64; 81] {
+    let mut v = [0.0; 81];
     fill(&mut v, seed);
     v
 }
