@@ -5,30 +5,14 @@ ghost use Rattle.loops.specs.Rounded.{◌⊕◌, ◌⊗◌};
 ghost use Rattle.scalar.specs.Root.{root_of};
 ghost use Rattle.scalar.specs.Sign.{to_exp_of};
 ghost use Rattle.matrix.specs.Sum.{bare, lanes};
-ghost use Rattle.matrix.specs.Vectors.{list2, list3};
 ghost use Rattle.householder.specs.Axis.{axis_answer, axis_of};
 
-use matrix::{Vector2, Vector3};
+use matrix::Vector;
 
 // What would be the column's first number after the reflection, and whether there is a reflection: there
 // is none where all squares of the column vanish.
 #[derive(Clone, Copy)]
 pub struct Axis {
-    pub norm: f64,
-    pub reflected: bool,
-}
-
-// The same with the axis itself, for columns of three and of two by value.
-#[derive(Clone, Copy)]
-pub struct Axis3 {
-    pub axis: Vector3,
-    pub norm: f64,
-    pub reflected: bool,
-}
-
-#[derive(Clone, Copy)]
-pub struct Axis2 {
-    pub axis: Vector2,
     pub norm: f64,
     pub reflected: bool,
 }
@@ -84,48 +68,28 @@ pub fn reflection_axis_mut(column: &mut [f64]) -> Axis
     }
 }
 
-// For a column of three numbers, whose sums have no leading zero but the norm's.
-pub fn reflection_axis3(column: Vector3) -> Axis3
-    ensures { axis_answer (list3 result.axis) result.norm result.reflected ≡ axis_of bare (list3 column) }
+// The same for a vector, whose sums have no leading zero but the norm's.
+pub fn reflection_axis_of_vector<const N: usize>(column: &mut Vector<N>) -> Axis
+    ensures { axis_answer column.new.0 result.norm result.reflected ≡ axis_of bare column.old.0 }
 {
-    let m = measure(column.norm_squared(), column.x);
-    let shifted = Vector3 {
-        x: column.x + m.norm,
-        y: column.y,
-        z: column.z,
-    };
+    let numbers: &[f64] = &column.0;
+    if numbers.len() == 0 {
+        return Axis {
+            norm: 0.0,
+            reflected: false,
+        };
+    }
+    let first = column.0[0];
+    let m = measure(column.norm_squared(), first);
+    column.0[0] = first + m.norm;
     if scalar::is_zero(m.factor) {
-        return Axis3 {
-            axis: shifted,
+        return Axis {
             norm: m.norm,
             reflected: false,
         };
     }
-    Axis3 {
-        axis: shifted.unscale(scalar::sqrt(m.factor)).normalize(),
-        norm: -m.norm,
-        reflected: true,
-    }
-}
-
-// For one of two.
-pub fn reflection_axis2(column: Vector2) -> Axis2
-    ensures { axis_answer (list2 result.axis) result.norm result.reflected ≡ axis_of bare (list2 column) }
-{
-    let m = measure(column.norm_squared(), column.x);
-    let shifted = Vector2 {
-        x: column.x + m.norm,
-        y: column.y,
-    };
-    if scalar::is_zero(m.factor) {
-        return Axis2 {
-            axis: shifted,
-            norm: m.norm,
-            reflected: false,
-        };
-    }
-    Axis2 {
-        axis: shifted.unscale(scalar::sqrt(m.factor)).normalize(),
+    *column = column.unscale(scalar::sqrt(m.factor)).normalize();
+    Axis {
         norm: -m.norm,
         reflected: true,
     }

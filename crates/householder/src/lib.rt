@@ -6,5 +6,5 @@ mod axis;
 mod clear;
 
 pub use assemble::assemble_q;
-pub use axis::{Axis, Axis2, Axis3, reflection_axis_mut, reflection_axis2, reflection_axis3};
+pub use axis::{Axis, reflection_axis_mut, reflection_axis_of_vector};
 pub use clear::clear_column;

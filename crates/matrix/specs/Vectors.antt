@@ -1,6 +1,6 @@
 -- Dot product, norm, scaling, filling, copying and largest magnitude of a list of numbers: a column, a part of one, or
 -- a whole matrix column by column (docs/SUMS.md, 2.1 to 2.7).
-use Rattle.std.specs.Prelude.{ℕ, cond, List, [], ◌∷◌, eqb, leb, length, set, Float}
+use Rattle.std.specs.Prelude.{ℕ, cond, List, eqb, leb, length, set, Float}
 use Rattle.std.specs.Float.{nan}
 use Rattle.std.specs.Float.Ieee.{le}
 use Rattle.loops.specs.Constants.{zero}
@@ -10,15 +10,6 @@ use Rattle.loops.specs.Times.{times, range}
 use Rattle.scalar.specs.Root.{root_of}
 use Rattle.scalar.specs.Sign.{modulus_of}
 use Rattle.matrix.specs.Sum.{Order, lanes}
-use Rattle.matrix.specs.declared.vector.Vector2.{Vector2}
-use Rattle.matrix.specs.declared.vector.Vector3.{Vector3}
-
--- a vector of two and of three as a list: what is defined on lists holds for them, with the order `bare`
-abbrev pub list2 : Vector2 → List Float
-list2 v = v.x ∷ v.y ∷ []
-
-abbrev pub list3 : Vector3 → List Float
-list3 v = v.x ∷ v.y ∷ v.z ∷ []
 
 -- the terms of a dot product
 abbrev pub products : List Float → List Float → ℕ → Float

@@ -15,4 +15,4 @@ pub use edition::{copy_from, fill};
 pub use min_max::camax;
 pub use norms::{norm, norm_squared, normalize_mut};
 pub use scale::{scale_mut, unscale_mut};
-pub use vector::{Vector2, Vector3};
+pub use vector::Vector;

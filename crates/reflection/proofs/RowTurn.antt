@@ -13,7 +13,10 @@ use Rattle.loops.specs.Constants.{minus_two}
 use Rattle.loops.specs.Place.{place}
 use Rattle.loops.proofs.Place.{places}
 use Rattle.loops.specs.Rounded.{◌⊕◌, ◌⊗◌, ◌!◌}
+use Rattle.loops.specs.Table.{table, table_at}
 use Rattle.loops.specs.Times.{range, range_more, range-one, range_portions}
+use Rattle.matrix.specs.Sum.{bare}
+use Rattle.matrix.specs.Vectors.{products}
 use Rattle.matrix.specs.Entries.{Rule, at_entry, in_block}
 use Rattle.matrix.specs.Product.{along}
 use Rattle.matrix.proofs.Blocks.{in_block_frame, in_block_same, in_block_rows, in_block_no_columns, in_block_column, in_block_alone}
@@ -120,6 +123,23 @@ unfolding mirrored_rows
 one_turn a s n i c0 j t₀ t e =
     let k : c0 + j - c0 ≡ j = omega arith in
     column_behind n i (i + 1) c0 j (mirrored_rows a s n c0 t₀) t₀ t _ (sym (range-one (at_entry n (mirrored_rows a s n c0 t₀) (c0 + j)) i t ∙ rw k)) e
+
+-- the same, where the row was read before any of it was put
+pub read_turn : (a : List Float) (s : Float) (n i c0 j : ℕ) (t₀ t : List Float) → i < n → j < length a
+    → t ≡ in_block n i (i + 1) c0 (c0 + j) (mirrored_rows a s n c0 t₀) t₀
+    → let u = table (length a) (λ j. t₀ ! place n i (c0 + j)) in
+    set t (place n i (c0 + j)) (s ⊗ minus_two ⊗ (a ! j) ⊗ bare (length a) (products u a) ⊕ s ⊗ (u ! j))
+    ≡ in_block n i (i + 1) c0 (c0 + (j + 1)) (mirrored_rows a s n c0 t₀) t₀
+unfolding along
+read_turn a s n i c0 j t₀ t h l e =
+    let u = table (length a) (λ j. t₀ ! place n i (c0 + j)) in
+    let stands : u ! j ≡ t ! place n i (c0 + j) =
+    table_at (length a) _ j nan l
+    ∙ sym (ap (λ v. v ! place n i (c0 + j)) e
+    ∙ in_block_frame n i (i + 1) c0 (c0 + j) (mirrored_rows a s n c0 t₀) t₀ i (c0 + j) (omega arith) h (λ o. omega arith)) in
+    let sum : bare (length a) (products u a) ≡ along a n c0 t₀ i =
+    bare_same (length a) _ _ (λ k m. ap (λ x. x ⊗ (a ! k)) (table_at (length a) _ k nan m)) in
+    rw (stands, sum) (one_turn a s n i c0 j t₀ t e)
 
 -- a row that is not done yet has the sum that it had
 along_kept : (a : List Float) (s : Float) (n r0 r1 c0 : ℕ) (t₀ t : List Float) (i : ℕ) → r1 ≤ i → i < n

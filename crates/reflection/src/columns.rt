@@ -6,7 +6,7 @@ ghost use Rattle.reflection.specs.Reflected.{reflected};
 ghost use Rattle.reflection.specs.Inner.{axpy_of};
 
 // The numbers of t from o on, as many as a is long: factor times that of a, plus sign times what stands.
-fn axpy(t: &mut [f64], o: usize, factor: f64, a: &[f64], sign: f64)
+pub(crate) fn axpy(t: &mut [f64], o: usize, factor: f64, a: &[f64], sign: f64)
     requires { (o + length a.now ≤ length t.old) × (length t.old ≤ 4096) }
     ensures { t.new ≡ axpy_of factor a.now sign o t.old }
 {

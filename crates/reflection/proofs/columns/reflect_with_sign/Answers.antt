@@ -3,7 +3,7 @@ use native.Mathlib.Omega.{arith}
 use Rattle.loops.specs.Place.{Column, column}
 use Rattle.matrix.proofs.Walks.{down_refused, down_begun, down_more, down_done}
 use Rattle.reflection.specs.Reflected.{reflected}
-use Rattle.reflection.proofs.ColumnTurn.{column_turn}
+use Rattle.reflection.proofs.ColumnTurn.{part_down, column_turn}
 use Rattle.std.specs.Prelude.{not}
 use Rattle.std.proofs.Common.{ap}
 use Rattle.reflection.proofs.columns.reflect_with_sign.Goals.{In-loop-j}
@@ -19,7 +19,7 @@ loop-j-preserved c =
     let here = turn (goal.at.loop-j-preserved c).In-loop-j in
     down_more inv (omega arith)
     (rw (c.axpy.ensures, c.dot.ensures)
-    (column_turn _ _ _ _ _ _ _ _ inv.fits.in_rows (omega arith) inv.from inv.done))
+    (column_turn _ _ _ _ _ _ _ _ _ _ inv.from inv.done (part_down _ _ _ _ _ _ _ _ inv.fits.in_rows (omega arith) inv.done)))
 
 pub returns-then-not-block_fits : goal.returns-then-not-block_fits
 unfolding reflected

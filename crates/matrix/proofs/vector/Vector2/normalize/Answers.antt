@@ -1,7 +1,0 @@
--- `matrix::vector::Vector2::normalize` meets its contract. Assumes nothing.
-use Rattle.matrix.specs.Vectors.{normalized}
-use Rattle.matrix.proofs.vector.Vector2.normalize.Goals as goal
-
-pub returns : goal.returns
-unfolding normalized
-returns c = rw (c.unscale.ensures, c.norm.ensures)
