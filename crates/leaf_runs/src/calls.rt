@@ -3,7 +3,7 @@ ghost use Rattle.std.specs.Prelude.{◌≡◌};
 
 use crate::draw::{drawn, numbers_of};
 use crate::say;
-use crate::vectors::{axis2, axis3, made, rotation, tell2, tell3, three, turn, two};
+use crate::vectors::{axis, axis_of, made, rotation, tell, turn, vector};
 use givens::Rotation;
 
 // The numbers of a call that has N of them, with one space between two.
@@ -51,14 +51,12 @@ fn summed<F: FnOnce(&[f64]) -> f64>(rt: &impl Print, given: &str, sum: F) -> Opt
     Some(())
 }
 
-fn axis(rt: &impl Print, given: &str) -> Option<()> {
+fn axis_of_slice(rt: &impl Print, given: &str) -> Option<()> {
     let [len, seed] = numbers::<2>(given)?;
     let mut room = numbers_of(seed);
     let x = room.get_mut(..len)?;
     let a = householder::reflection_axis_mut(x);
-    say::number(rt, a.norm);
-    say::flag(rt, a.reflected);
-    say::numbers(rt, x);
+    axis(rt, a, x);
     Some(())
 }
 
@@ -230,7 +228,7 @@ pub(crate) fn run(rt: &impl Print, name: &str, given: &str) -> Option<()> {
         "scale_mut" => changed(rt, given, |x, next| matrix::scale_mut(x, next)),
         "unscale_mut" => changed(rt, given, |x, next| matrix::unscale_mut(x, next)),
         "fill" => changed(rt, given, |x, next| matrix::fill(x, next)),
-        "reflection_axis_mut" => axis(rt, given),
+        "reflection_axis_mut" => axis_of_slice(rt, given),
         "norm_squared" => summed(rt, given, |x| matrix::norm_squared(x)),
         "norm" => summed(rt, given, |x| matrix::norm(x)),
         "camax" => summed(rt, given, |x| matrix::camax(x)),
@@ -240,21 +238,18 @@ pub(crate) fn run(rt: &impl Print, name: &str, given: &str) -> Option<()> {
         "entry" => entry(rt, given),
         "block_fits" => block_fits(rt, given),
 
-        "Vector2::dot" => of_seed(given, |s| say::number(rt, two(s).dot(two(16)))),
-        "Vector3::dot" => of_seed(given, |s| say::number(rt, three(s).dot(three(16)))),
-        "Vector2::norm_squared" => of_seed(given, |s| say::number(rt, two(s).norm_squared())),
-        "Vector3::norm_squared" => of_seed(given, |s| say::number(rt, three(s).norm_squared())),
-        "Vector2::norm" => of_seed(given, |s| say::number(rt, two(s).norm())),
-        "Vector3::norm" => of_seed(given, |s| say::number(rt, three(s).norm())),
-        "Vector2::unscale" => of_seed(given, |s| tell2(rt, two(s).unscale(drawn(s, 3)))),
-        "Vector3::unscale" => of_seed(given, |s| tell3(rt, three(s).unscale(drawn(s, 3)))),
-        "Vector2::normalize" => of_seed(given, |s| tell2(rt, two(s).normalize())),
-        "Vector3::normalize" => of_seed(given, |s| tell3(rt, three(s).normalize())),
-        "reflection_axis2" => of_seed(given, |s| axis2(rt, householder::reflection_axis2(two(s)))),
-        "reflection_axis3" => of_seed(
-            given,
-            |s| axis3(rt, householder::reflection_axis3(three(s))),
-        ),
+        "Vector2::dot" => of_seed(given, |s| say::number(rt, vector::<2>(s).dot(&vector(16)))),
+        "Vector3::dot" => of_seed(given, |s| say::number(rt, vector::<3>(s).dot(&vector(16)))),
+        "Vector2::norm_squared" => of_seed(given, |s| say::number(rt, vector::<2>(s).norm_squared())),
+        "Vector3::norm_squared" => of_seed(given, |s| say::number(rt, vector::<3>(s).norm_squared())),
+        "Vector2::norm" => of_seed(given, |s| say::number(rt, vector::<2>(s).norm())),
+        "Vector3::norm" => of_seed(given, |s| say::number(rt, vector::<3>(s).norm())),
+        "Vector2::unscale" => of_seed(given, |s| tell(rt, &vector::<2>(s).unscale(drawn(s, 3)))),
+        "Vector3::unscale" => of_seed(given, |s| tell(rt, &vector::<3>(s).unscale(drawn(s, 3)))),
+        "Vector2::normalize" => of_seed(given, |s| tell(rt, &vector::<2>(s).normalize())),
+        "Vector3::normalize" => of_seed(given, |s| tell(rt, &vector::<3>(s).normalize())),
+        "reflection_axis2" => of_seed(given, |s| axis_of::<2>(rt, s)),
+        "reflection_axis3" => of_seed(given, |s| axis_of::<3>(rt, s)),
 
         "Rotation::identity" => of_seed(given, |_| rotation(rt, Rotation::identity())),
         "Rotation::new" => of_seed(given, |s| turn(rt, Rotation::new(drawn(s, 0), drawn(s, 1)))),
@@ -293,21 +288,21 @@ pub(crate) fn run(rt: &impl Print, name: &str, given: &str) -> Option<()> {
         "reflect3" => moved(
             rt,
             given,
-            |t, p, _| reflection::reflect3(three(p.seed), t, p.n, p.row, p.c0, p.c1),
+            |t, p, _| reflection::reflect_by_vector(&vector::<3>(p.seed), t, p.n, p.row, p.c0, p.c1),
         ),
         "reflect2" => moved(
             rt,
             given,
-            |t, p, _| reflection::reflect2(two(p.seed), t, p.n, p.row, p.c0, p.c1),
+            |t, p, _| reflection::reflect_by_vector(&vector::<2>(p.seed), t, p.n, p.row, p.c0, p.c1),
         ),
         "reflect_with_sign" => moved(rt, given, |t, p, a| {
             reflection::reflect_with_sign(a, t, p.n, p.row, p.c0, p.c1, sign(p.seed));
         }),
         "reflect3_with_sign" => moved(rt, given, |t, p, _| {
-            reflection::reflect3_with_sign(three(p.seed), t, p.n, p.row, p.c0, p.c1, sign(p.seed));
+            reflection::reflect_by_vector_with_sign(&vector::<3>(p.seed), t, p.n, p.row, p.c0, p.c1, sign(p.seed));
         }),
         "reflect2_with_sign" => moved(rt, given, |t, p, _| {
-            reflection::reflect2_with_sign(two(p.seed), t, p.n, p.row, p.c0, p.c1, sign(p.seed));
+            reflection::reflect_by_vector_with_sign(&vector::<2>(p.seed), t, p.n, p.row, p.c0, p.c1, sign(p.seed));
         }),
         "reflect_rows" => moved(
             rt,
@@ -317,21 +312,21 @@ pub(crate) fn run(rt: &impl Print, name: &str, given: &str) -> Option<()> {
         "reflect_rows3" => moved(
             rt,
             given,
-            |t, p, _| reflection::reflect_rows3(three(p.seed), t, p.n, p.rows, p.c0),
+            |t, p, _| reflection::reflect_rows_by_vector(&vector::<3>(p.seed), t, p.n, p.rows, p.c0),
         ),
         "reflect_rows2" => moved(
             rt,
             given,
-            |t, p, _| reflection::reflect_rows2(two(p.seed), t, p.n, p.rows, p.c0),
+            |t, p, _| reflection::reflect_rows_by_vector(&vector::<2>(p.seed), t, p.n, p.rows, p.c0),
         ),
         "reflect_rows_with_sign" => moved(rt, given, |t, p, a| {
             reflection::reflect_rows_with_sign(a, t, p.n, p.rows, p.c0, sign(p.seed));
         }),
         "reflect_rows3_with_sign" => moved(rt, given, |t, p, _| {
-            reflection::reflect_rows3_with_sign(three(p.seed), t, p.n, p.rows, p.c0, sign(p.seed));
+            reflection::reflect_rows_by_vector_with_sign(&vector::<3>(p.seed), t, p.n, p.rows, p.c0, sign(p.seed));
         }),
         "reflect_rows2_with_sign" => moved(rt, given, |t, p, _| {
-            reflection::reflect_rows2_with_sign(two(p.seed), t, p.n, p.rows, p.c0, sign(p.seed));
+            reflection::reflect_rows_by_vector_with_sign(&vector::<2>(p.seed), t, p.n, p.rows, p.c0, sign(p.seed));
         }),
 
         "clear_column" => cleared(given, |norm, _, work| {

@@ -1,44 +1,34 @@
-// Vectors of two and of three, and rotations.
+// Vectors, axes and rotations.
 use crate::draw::drawn;
 use crate::say;
 use givens::{Rotation, Turn};
-use householder::{Axis2, Axis3};
-use matrix::{Vector2, Vector3};
+use householder::Axis;
+use matrix::Vector;
 
-// The first two and the first three numbers of a seed.
-pub(crate) fn two(seed: usize) -> Vector2 {
-    Vector2 {
-        x: drawn(seed, 0),
-        y: drawn(seed, 1),
+// The first N numbers of a seed.
+pub(crate) fn vector<const N: usize>(seed: usize) -> Vector<N> {
+    let mut v = Vector([0.0; N]);
+    for (place, x) in v.0.iter_mut().enumerate() {
+        *x = drawn(seed, place);
     }
+    v
 }
 
-pub(crate) fn three(seed: usize) -> Vector3 {
-    Vector3 {
-        x: drawn(seed, 0),
-        y: drawn(seed, 1),
-        z: drawn(seed, 2),
-    }
+pub(crate) fn tell<const N: usize>(rt: &impl Print, v: &Vector<N>) {
+    say::numbers(rt, &v.0);
 }
 
-pub(crate) fn tell2(rt: &impl Print, v: Vector2) {
-    say::numbers(rt, &[v.x, v.y]);
-}
-
-pub(crate) fn tell3(rt: &impl Print, v: Vector3) {
-    say::numbers(rt, &[v.x, v.y, v.z]);
-}
-
-pub(crate) fn axis2(rt: &impl Print, a: Axis2) {
+pub(crate) fn axis(rt: &impl Print, a: Axis, column: &[f64]) {
     say::number(rt, a.norm);
     say::flag(rt, a.reflected);
-    tell2(rt, a.axis);
+    say::numbers(rt, column);
 }
 
-pub(crate) fn axis3(rt: &impl Print, a: Axis3) {
-    say::number(rt, a.norm);
-    say::flag(rt, a.reflected);
-    tell3(rt, a.axis);
+// The axis of a vector of a seed.
+pub(crate) fn axis_of<const N: usize>(rt: &impl Print, seed: usize) {
+    let mut column = vector::<N>(seed);
+    let a = householder::reflection_axis_of_vector(&mut column);
+    axis(rt, a, &column.0);
 }
 
 pub(crate) fn rotation(rt: &impl Print, r: Rotation) {
