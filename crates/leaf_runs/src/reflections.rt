@@ -10,11 +10,11 @@ pub(crate) fn columns(k: usize, c: Case, t: &mut [f64], a: &[f64]) {
     let sign = scalar::signum(drawn(c.other, 9));
     match k {
         1 => reflection::reflect(a, t, c.n, c.row, c.c0, c.c1),
-        2 => reflection::reflect3(v, t, c.n, c.row, c.c0, c.c1),
-        3 => reflection::reflect2(u, t, c.n, c.row, c.c0, c.c1),
+        2 => reflection::reflect_by_vector(&v, t, c.n, c.row, c.c0, c.c1),
+        3 => reflection::reflect_by_vector(&u, t, c.n, c.row, c.c0, c.c1),
         4 => reflection::reflect_with_sign(a, t, c.n, c.row, c.c0, c.c1, sign),
-        5 => reflection::reflect3_with_sign(v, t, c.n, c.row, c.c0, c.c1, sign),
-        _ => reflection::reflect2_with_sign(u, t, c.n, c.row, c.c0, c.c1, sign),
+        5 => reflection::reflect_by_vector_with_sign(&v, t, c.n, c.row, c.c0, c.c1, sign),
+        _ => reflection::reflect_by_vector_with_sign(&u, t, c.n, c.row, c.c0, c.c1, sign),
     }
 }
 
@@ -24,10 +24,10 @@ pub(crate) fn rows(k: usize, c: Case, t: &mut [f64], a: &[f64]) {
     let sign = scalar::signum(drawn(c.other, 9));
     match k {
         1 => reflection::reflect_rows(a, t, c.n, c.rows, c.c0),
-        2 => reflection::reflect_rows3(v, t, c.n, c.rows, c.c0),
-        3 => reflection::reflect_rows2(u, t, c.n, c.rows, c.c0),
+        2 => reflection::reflect_rows_by_vector(&v, t, c.n, c.rows, c.c0),
+        3 => reflection::reflect_rows_by_vector(&u, t, c.n, c.rows, c.c0),
         4 => reflection::reflect_rows_with_sign(a, t, c.n, c.rows, c.c0, sign),
-        5 => reflection::reflect_rows3_with_sign(v, t, c.n, c.rows, c.c0, sign),
-        _ => reflection::reflect_rows2_with_sign(u, t, c.n, c.rows, c.c0, sign),
+        5 => reflection::reflect_rows_by_vector_with_sign(&v, t, c.n, c.rows, c.c0, sign),
+        _ => reflection::reflect_rows_by_vector_with_sign(&u, t, c.n, c.rows, c.c0, sign),
     }
 }
