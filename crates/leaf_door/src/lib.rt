@@ -2,10 +2,10 @@
 // host program calls is `door`.
 #![tactic(auto)]
 
-ghost use Rattle.std.specs.Prelude.{◌≡◌};
+ghost use Rattle.std.specs.Prelude.{◌≡◌, [], ◌∷◌};
 ghost use Rattle.matrix.specs.Sum.{lanes, bare};
 ghost use Rattle.loops.specs.Constants.{one};
-ghost use Rattle.matrix.specs.Vectors.{dot_of, list3};
+ghost use Rattle.matrix.specs.Vectors.{dot_of};
 ghost use Rattle.givens.specs.Rotation.{rotation};
 ghost use Rattle.givens.specs.Rotated.{rotated, rotated_rows};
 ghost use Rattle.reflection.specs.Reflected.{reflected, reflected_rows};
@@ -14,7 +14,7 @@ ghost use Rattle.householder.specs.Cleared.{cleared, clear_of};
 ghost use Rattle.householder.specs.Assembled.{assembled};
 
 use givens::Rotation;
-use matrix::Vector3;
+use matrix::Vector;
 
 #[unsafe(no_mangle)]
 pub extern "C" fn manulsek_leaf_dot(x: &[f64], y: &[f64]) -> f64
@@ -73,10 +73,9 @@ pub extern "C" fn manulsek_leaf_reflect3(
     c0: usize,
     c1: usize,
 )
-    ensures { t.new ≡ reflected bare (list3 (record { x = x; y = y; z = z })) one n row c0 c1
-        t.old }
+    ensures { t.new ≡ reflected bare (x ∷ y ∷ z ∷ []) one n row c0 c1 t.old }
 {
-    reflection::reflect3(Vector3 { x, y, z }, t, n, row, c0, c1);
+    reflection::reflect_by_vector(&Vector([x, y, z]), t, n, row, c0, c1);
 }
 
 #[unsafe(no_mangle)]
@@ -89,10 +88,9 @@ pub extern "C" fn manulsek_leaf_reflect_rows3(
     rows: usize,
     c0: usize,
 )
-    ensures { t.new ≡ reflected_rows (list3 (record { x = x; y = y; z = z })) one n rows c0
-        t.old }
+    ensures { t.new ≡ reflected_rows (x ∷ y ∷ z ∷ []) one n rows c0 t.old }
 {
-    reflection::reflect_rows3(Vector3 { x, y, z }, t, n, rows, c0);
+    reflection::reflect_rows_by_vector(&Vector([x, y, z]), t, n, rows, c0);
 }
 
 #[unsafe(no_mangle)]

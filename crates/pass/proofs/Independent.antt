@@ -9,14 +9,12 @@ use lib.Ieee.{Float}
 use Rattle.loops.specs.Times.{range, range_both}
 use Rattle.matrix.specs.Fits.{block_fits}
 use Rattle.matrix.specs.Sum.{bare}
-use Rattle.matrix.specs.Vectors.{list2, list3}
-use Rattle.matrix.specs.declared.vector.Vector3.{Vector3}
 use Rattle.householder.specs.Axis.{axis_of}
 use Rattle.window.specs.declared.Window.{Window}
 use Rattle.pass.specs.declared.setting.Setting.{Setting}
 use Rattle.pass.specs.Setting.{wanting}
 use Rattle.pass.specs.Pair.{Pair, pair, on_q}
-use Rattle.pass.specs.Pass.{first_column, bulge_end, column_at, swept_past, reflected_at, rows_at, step_at, chased, closing, pass_here, pass_of}
+use Rattle.pass.specs.Pass.{first_column, bulge, column_at, swept_past, reflected_at, rows_at, step_at, chased, closing, pass_here, pass_of}
 use Rattle.pass.specs.Block.{block_at, basis_of, turned_t, turned_q, split_at, columns_in, order_two}
 
 -- In all that follows one setting is asked for, but that Q is wanted as b says, or as d does.
@@ -41,26 +39,26 @@ step_at_t b d asked w k c p r h =
     either (reflected_at (wanting b asked) k rows x.axis (there p)) p (reflected_at (wanting d asked) k rows x.axis (there r)) r x.reflected
     (reflected_at_t b d asked k rows x.axis (there p) (there r) (ap (swept_past asked.order w.start k (length c) x.norm) h)) h
 
-chased_t : (b d : Bool) (asked : Setting) (w : Window) (first : Vector3) (k : ℕ) (p r : Pair) → p.t ≡ r.t
+chased_t : (b d : Bool) (asked : Setting) (w : Window) (first : List Float) (k : ℕ) (p r : Pair) → p.t ≡ r.t
     → (chased (wanting b asked) w first k p).t ≡ (chased (wanting d asked) w first k r).t
 unfolding chased
 chased_t b d asked w first k p r h =
-    let column : List Float → List Float = λ t. list3 (column_at asked.order w.start k first t) in
+    let column : List Float → List Float = column_at asked.order w.start k first in
     step_at_t b d asked w k (column p.t) p r h ∙ ap (λ t. (step_at (wanting d asked) w k (column t) r).t) h
 
 closing_t : (b d : Bool) (asked : Setting) (w : Window) (p r : Pair) → p.t ≡ r.t → (closing (wanting b asked) w p).t ≡ (closing (wanting d asked) w r).t
 unfolding closing
 closing_t b d asked w p r h =
     let k = w.end - 1 in
-    step_at_t b d asked w k (list2 (bulge_end asked.order k p.t)) p r h
-    ∙ ap (λ t. (step_at (wanting d asked) w k (list2 (bulge_end asked.order k t)) r).t) h
+    step_at_t b d asked w k (bulge asked.order k 2 p.t) p r h
+    ∙ ap (λ t. (step_at (wanting d asked) w k (bulge asked.order k 2 t) r).t) h
 
 pass_here_t : (b d : Bool) (asked : Setting) (w : Window) (p r : Pair) → p.t ≡ r.t → (pass_here (wanting b asked) w p).t ≡ (pass_here (wanting d asked) w r).t
 unfolding pass_here
 pass_here_t b d asked w p r h =
     let s = w.start in
     let e = w.end in
-    let first : List Float → Vector3 = first_column asked.order s e in
+    let first : List Float → List Float = first_column asked.order s e in
     let steps : Bool → List Float → ℕ → Pair → Pair = λ wanted t. chased (wanting wanted asked) w (first t) in
     let swept = range_both (λ x y. x.t ≡ y.t) (steps b p.t) (steps d p.t) s (e - 1) p r (λ k x y. chased_t b d asked w (first p.t) k x y) h in
     closing_t b d asked w (range (steps b p.t) s (e - 1) p) (range (steps d p.t) s (e - 1) r) swept

@@ -14,15 +14,13 @@ use Rattle.loops.specs.Tests.{cond_hold}
 use Rattle.loops.specs.Times.{range, range_hold}
 use Rattle.matrix.specs.Fits.{block_fits}
 use Rattle.matrix.specs.Sum.{bare}
-use Rattle.matrix.specs.Vectors.{list2, list3}
-use Rattle.matrix.specs.declared.vector.Vector3.{Vector3}
 use Rattle.reflection.specs.Reflected.{reflected_rows}
 use Rattle.reflection.proofs.Frames.{reflected-length, reflected_rows-length}
 use Rattle.householder.specs.Axis.{axis_of}
 use Rattle.window.specs.declared.Window.{Window}
 use Rattle.pass.specs.declared.setting.Setting.{Setting}
 use Rattle.pass.specs.Pair.{Pair, pair, on_q}
-use Rattle.pass.specs.Pass.{first_column, bulge_end, column_at, swept, swept_past, reflected_at, rows_at, step_at, chased, closing, pass_here, pass_of}
+use Rattle.pass.specs.Pass.{first_column, bulge, column_at, swept, swept_past, reflected_at, rows_at, step_at, chased, closing, pass_here, pass_of}
 use Rattle.pass.specs.Block.{block_at, basis_of, turned_t, turned_q, split_at, columns_of, columns_in, order_two}
 use Rattle.pass.proofs.BlockFrames.{turned_t-length, turned_q-length}
 use Rattle.pass.proofs.Swept.{swept-length}
@@ -69,13 +67,13 @@ step_at_length asked w k c p =
 
 -- ---- the pass
 
-chased_length : (asked : Setting) (w : Window) (first : Vector3) (k : ℕ) (p : Pair) → AsLong p (chased asked w first k p)
+chased_length : (asked : Setting) (w : Window) (first : List Float) (k : ℕ) (p : Pair) → AsLong p (chased asked w first k p)
 unfolding chased
-chased_length asked w first k p = step_at_length asked w k (list3 (column_at asked.order w.start k first p.t)) p
+chased_length asked w first k p = step_at_length asked w k (column_at asked.order w.start k first p.t) p
 
 closing_length : (asked : Setting) (w : Window) (p : Pair) → AsLong p (closing asked w p)
 unfolding closing
-closing_length asked w p = step_at_length asked w (w.end - 1) (list2 (bulge_end asked.order (w.end - 1) p.t)) p
+closing_length asked w p = step_at_length asked w (w.end - 1) (bulge asked.order (w.end - 1) 2 p.t) p
 
 pass_here_length : (asked : Setting) (w : Window) (p : Pair) → AsLong p (pass_here asked w p)
 unfolding pass_here

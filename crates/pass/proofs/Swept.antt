@@ -1,6 +1,6 @@
--- A column swept: entry by entry, as the code puts them; what stands where afterwards, and what is left alone. Assumes nothing.
+-- A column swept: what stands where afterwards, and what is left alone. Assumes nothing.
 use Prim.Native.Nat.{ℕ, ◌+◌, ◌-◌, ◌*◌, ◌<◌, ◌≤◌}
-use mathlib.Core.Path.{◌≡◌, sym, ap, ◌∙◌}
+use mathlib.Core.Path.{◌≡◌, sym, ◌∙◌}
 use mathlib.Core.List.{List}
 use native.Mathlib.Omega.{arith}
 use lib.ListN.{length, set, length-set}
@@ -10,27 +10,11 @@ use Rattle.loops.specs.Constants.{zero}
 use Rattle.loops.specs.Place.{place, in_square}
 use Rattle.loops.proofs.Place.{places}
 use Rattle.loops.specs.Rounded.{◌!◌}
-use Rattle.loops.specs.Times.{range, range-one, range_two, range_length, range_frame, range_at}
+use Rattle.loops.specs.Times.{range, range_length, range_frame, range_at}
 use Rattle.pass.specs.Pass.{swept}
 
 abbrev cleared : ℕ → ℕ → ℕ → List Float → List Float
 cleared n k i t = set t (place n i (k - 1)) zero
-
-pub swept_two : (n k : ℕ) (x : Float) (t : List Float) → set (set t (place n k (k - 1)) x) (place n (k + 1) (k - 1)) zero ≡ swept n k 2 x t
-unfolding swept
-swept_two n k x t =
-    let e : k + 1 + 1 ≡ k + 2 = omega arith in
-    sym (range-one (cleared n k) (k + 1) _) ∙ ap (λ b. range (cleared n k) (k + 1) b (set t (place n k (k - 1)) x)) e
-
-pub swept_three : (n k : ℕ) (x : Float) (t : List Float) → set (set (set t (place n k (k - 1)) x) (place n (k + 1) (k - 1)) zero) (place n (k + 2) (k - 1)) zero
-    ≡ swept n k 3 x t
-unfolding swept
-swept_three n k x t =
-    let e : k + 1 + 2 ≡ k + 3 = omega arith in
-    let f : k + 2 ≡ k + 1 + 1 = omega arith in
-    ap (λ i. cleared n k i (cleared n k (k + 1) (set t (place n k (k - 1)) x))) f
-    ∙ sym (range_two (cleared n k) (k + 1) _)
-    ∙ ap (λ b. range (cleared n k) (k + 1) b (set t (place n k (k - 1)) x)) e
 
 -- ---- what stands where
 

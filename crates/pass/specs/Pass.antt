@@ -1,14 +1,12 @@
 -- One double-shift pass over a window of three or more rows (document 01, step 6; docs/SUMS.md, 7.7).
-use Rattle.std.specs.Prelude.{ℕ, ◌+◌, ◌-◌, min, cond, ◌&&◌, List, leb, length, set, Float}
+use Rattle.std.specs.Prelude.{ℕ, ◌+◌, ◌-◌, min, cond, ◌&&◌, List, [], ◌∷◌, leb, length, set, Float}
 use Rattle.loops.specs.Constants.{zero, one}
 use Rattle.loops.specs.Place.{place}
 use Rattle.loops.specs.Rounded.{◌⊕◌, ◌⊖◌, ◌⊗◌, ◌!◌}
+use Rattle.loops.specs.Table.{table}
 use Rattle.loops.specs.Times.{range}
 use Rattle.matrix.specs.Fits.{block_fits}
 use Rattle.matrix.specs.Sum.{bare}
-use Rattle.matrix.specs.Vectors.{list2, list3}
-use Rattle.matrix.specs.declared.vector.Vector2.{Vector2}
-use Rattle.matrix.specs.declared.vector.Vector3.{Vector3}
 use Rattle.reflection.specs.Reflected.{reflected, reflected_rows}
 use Rattle.householder.specs.Axis.{axis_of}
 use Rattle.window.specs.declared.Window.{Window}
@@ -19,7 +17,7 @@ use Rattle.pass.specs.Pair.{Pair, pair, on_q}
 
 -- The first three entries of the first column of (T - a)(T - b), where a and b are the two shifts: the eigenvalues of
 -- the window's last block of two, of which only sum and product are needed. All is read before anything is changed.
-unfoldable pub first_column : (n start end : ℕ) → (t : List Float) → Vector3
+unfoldable pub first_column : (n start end : ℕ) → (t : List Float) → List Float
 first_column n s e t =
     let m = e - 1 in
     let h11 = t ! place n s s in
@@ -31,18 +29,15 @@ first_column n s e t =
     let hmm = t ! place n m m in
     let tra = hnn ⊕ hmm in
     let det = hnn ⊗ hmm ⊖ (t ! place n e m) ⊗ (t ! place n m e) in
-    record { x = h11 ⊗ h11 ⊕ h12 ⊗ h21 ⊖ tra ⊗ h11 ⊕ det; y = h21 ⊗ (h11 ⊕ h22 ⊖ tra); z = h21 ⊗ h32 }
+    (h11 ⊗ h11 ⊕ h12 ⊗ h21 ⊖ tra ⊗ h11 ⊕ det) ∷ (h21 ⊗ (h11 ⊕ h22 ⊖ tra)) ∷ (h21 ⊗ h32) ∷ []
 
--- the bulge at k: three, and at the window's end two, entries of column k - 1 from row k on
-unfoldable pub bulge : (n k : ℕ) → (t : List Float) → Vector3
-bulge n k t = record { x = t ! place n k (k - 1); y = t ! place n (k + 1) (k - 1); z = t ! place n (k + 2) (k - 1) }
-
-unfoldable pub bulge_end : (n k : ℕ) → (t : List Float) → Vector2
-bulge_end n k t = record { x = t ! place n k (k - 1); y = t ! place n (k + 1) (k - 1) }
+-- the bulge at k: so many entries of column k - 1 from row k on
+unfoldable pub bulge : (n k rows : ℕ) → (t : List Float) → List Float
+bulge n k rows t = table rows (λ i. t ! place n (k + i) (k - 1))
 
 -- at the start the first column, past it the bulge
-unfoldable pub column_at : (n start k : ℕ) → (first : Vector3) → (t : List Float) → Vector3
-column_at n s k first t = cond (leb k s) first (bulge n k t)
+unfoldable pub column_at : (n start k : ℕ) → (first t : List Float) → List Float
+column_at n s k first t = cond (leb k s) first (bulge n k 3 t)
 
 -- ---- one step of a pass
 
@@ -78,12 +73,12 @@ step_at asked w k c p =
 -- ---- the pass
 
 -- the step at k by three numbers
-unfoldable pub chased : Setting → Window → (first : Vector3) → (k : ℕ) → Pair → Pair
-chased asked w first k p = step_at asked w k (list3 (column_at asked.order w.start k first p.t)) p
+unfoldable pub chased : Setting → Window → (first : List Float) → (k : ℕ) → Pair → Pair
+chased asked w first k p = step_at asked w k (column_at asked.order w.start k first p.t) p
 
 -- the last step, by two
 unfoldable pub closing : Setting → Window → Pair → Pair
-closing asked w p = let k = w.end - 1 in step_at asked w k (list2 (bulge_end asked.order k p.t)) p
+closing asked w p = let k = w.end - 1 in step_at asked w k (bulge asked.order k 2 p.t) p
 
 unfoldable pub pass_here : Setting → Window → Pair → Pair
 pass_here asked w p =

@@ -3,23 +3,22 @@
 ghost use Rattle.std.specs.Prelude.{◌≡◌, ◌+◌, ◌<◌, ◌≤◌};
 ghost use Rattle.loops.specs.Constants.{one};
 ghost use Rattle.matrix.specs.Sum.{bare};
-ghost use Rattle.matrix.specs.Vectors.{list2, list3};
 ghost use Rattle.reflection.specs.Reflected.{reflected, reflected_rows};
 ghost use Rattle.pass.specs.Pair.{pair};
-ghost use Rattle.pass.specs.Pass.{first_column, bulge, bulge_end, column_at};
+ghost use Rattle.pass.specs.Pass.{first_column, bulge, column_at};
 ghost use Rattle.pass.specs.Pass.{swept_past, reflected_at, rows_at, step_at};
 ghost use Rattle.pass.specs.Pass.{chased, closing, pass_here, pass_of};
 ghost use Rattle.pass.specs.Inner.{Reaches};
 
 use crate::place::{get, put};
 use crate::setting::Setting;
-use matrix::{Vector2, Vector3};
+use matrix::Vector;
 use window::Window;
 
 // The first column, from the shifts.
-fn first_column(t: &[f64], n: usize, start: usize, end: usize) -> Vector3
+fn first_column(t: &[f64], n: usize, start: usize, end: usize) -> Vector<3>
     requires { Reaches n end t.now × (start + 2 ≤ end) }
-    ensures { result ≡ first_column n start end t.now }
+    ensures { result.0 ≡ first_column n start end t.now }
 {
     let m = end - 1;
     let h11 = get(t, n, start, start);
@@ -33,97 +32,71 @@ fn first_column(t: &[f64], n: usize, start: usize, end: usize) -> Vector3
     let hmn = get(t, n, m, end);
     let tra = hnn + hmm;
     let det = hnn * hmm - hnm * hmn;
-    Vector3 {
-        x: h11 * h11 + h12 * h21 - tra * h11 + det,
-        y: h21 * (h11 + h22 - tra),
-        z: h21 * h32,
-    }
+    Vector([
+        h11 * h11 + h12 * h21 - tra * h11 + det,
+        h21 * (h11 + h22 - tra),
+        h21 * h32,
+    ])
 }
 
-// The bulge at k: column k - 1 from row k on, three numbers of it, and two at the window's end.
-fn bulge3(t: &[f64], n: usize, k: usize) -> Vector3
-    requires { Reaches n (k + 2) t.now × (0 < k) }
-    ensures { result ≡ bulge n k t.now }
+// The bulge at k: N numbers of column k - 1 from row k on.
+fn bulge<const N: usize>(t: &[f64], n: usize, k: usize) -> Vector<N>
+    requires { Reaches n k t.now × (0 < k) × (k + N ≤ n) }
+    ensures { result.0 ≡ bulge n k N t.now }
 {
     let m = k - 1;
-    Vector3 {
-        x: get(t, n, k, m),
-        y: get(t, n, k + 1, m),
-        z: get(t, n, k + 2, m),
+    let mut u = Vector([0.0; N]);
+    for i in 0..N {
+        u.0[i] = get(t, n, k + i, m);
     }
+    u
 }
 
-fn bulge2(t: &[f64], n: usize, k: usize) -> Vector2
-    requires { Reaches n (k + 1) t.now × (0 < k) }
-    ensures { result ≡ bulge_end n k t.now }
-{
-    let m = k - 1;
-    Vector2 {
-        x: get(t, n, k, m),
-        y: get(t, n, k + 1, m),
-    }
-}
-
-// What the reflection makes of column k - 1, past the first step: the norm in row k, +0 in the next rows.
-fn sweep3(t: &mut [f64], n: usize, start: usize, k: usize, norm: f64)
-    requires { Reaches n (k + 2) t.old }
-    ensures { t.new ≡ swept_past n start k 3 norm t.old }
+// What the reflection makes of so many rows of column k - 1, past the first step: the norm in row k, +0 in the next.
+fn sweep(t: &mut [f64], n: usize, start: usize, k: usize, rows: usize, norm: f64)
+    requires { Reaches n k t.old × (k + rows ≤ n) }
+    ensures { t.new ≡ swept_past n start k rows norm t.old }
 {
     if k <= start {
         return;
     }
     let m = k - 1;
     put(t, n, k, m, norm);
-    put(t, n, k + 1, m, 0.0);
-    put(t, n, k + 2, m, 0.0);
-}
-
-fn sweep2(t: &mut [f64], n: usize, start: usize, k: usize, norm: f64)
-    requires { Reaches n (k + 1) t.old }
-    ensures { t.new ≡ swept_past n start k 2 norm t.old }
-{
-    if k <= start {
-        return;
+    for i in k + 1..k + rows {
+        put(t, n, i, m, 0.0);
     }
-    let m = k - 1;
-    put(t, n, k, m, norm);
-    put(t, n, k + 1, m, 0.0);
 }
 
-// Both sides of T by the axis a from row and column k on, its columns in the first `rows` rows. Columns k to k + 2
-// come first: `reflect_rows3`, and so the next step's axis, needs no others. Those right of them come last.
-fn both_sides3(a: Vector3, t: &mut [f64], n: usize, k: usize, rows: usize)
-    requires { Reaches n (k + 2) t.old × (rows ≤ n) }
+// Both sides of T by the axis a from row and column k on, its columns in the first `rows` rows. The N columns from k on
+// come first: the reflection of the rows, and so the next step's axis, needs no others. Those right of them come last.
+fn both_sides<const N: usize>(a: &Vector<N>, t: &mut [f64], n: usize, k: usize, rows: usize)
+    requires { Reaches n k t.old × (k + N ≤ n) × (rows ≤ n) }
     ensures { t.new
-        ≡ reflected_rows (list3 a) one n rows k (reflected bare (list3 a) one n k k n t.old) }
+        ≡ reflected_rows a.now.0 one n rows k (reflected bare a.now.0 one n k k n t.old) }
 {
-    let right = k + 3;
-    reflection::reflect3(a, t, n, k, k, right);
-    reflection::reflect_rows3(a, t, n, rows, k);
-    reflection::reflect3(a, t, n, k, right, n);
+    let x: &[f64] = &a.0;
+    let right = k + x.len();
+    reflection::reflect_by_vector(a, t, n, k, k, right);
+    reflection::reflect_rows_by_vector(a, t, n, rows, k);
+    reflection::reflect_by_vector(a, t, n, k, right, n);
 }
 
 // The same; and Q.
-fn reflect_at3(a: Vector3, t: &mut [f64], q: &mut [f64], asked: Setting, k: usize, rows: usize)
-    requires { Reaches asked.order (k + 2) t.old × (rows ≤ asked.order) }
+fn reflect_at<const N: usize>(
+    a: &Vector<N>,
+    t: &mut [f64],
+    q: &mut [f64],
+    asked: Setting,
+    k: usize,
+    rows: usize,
+)
+    requires { Reaches asked.order k t.old × (k + N ≤ asked.order) × (rows ≤ asked.order) }
     ensures { pair t.new q.new
-        ≡ reflected_at asked k rows (list3 a) (pair t.old q.old) }
+        ≡ reflected_at asked k rows a.now.0 (pair t.old q.old) }
 {
-    both_sides3(a, t, asked.order, k, rows);
+    both_sides(a, t, asked.order, k, rows);
     if asked.wanted {
-        reflection::reflect_rows3(a, q, asked.order, asked.order, k);
-    }
-}
-
-// Both sides and Q by an axis of two.
-fn reflect_at2(a: Vector2, t: &mut [f64], q: &mut [f64], asked: Setting, k: usize, rows: usize)
-    ensures { pair t.new q.new
-        ≡ reflected_at asked k rows (list2 a) (pair t.old q.old) }
-{
-    reflection::reflect2(a, t, asked.order, k, k, asked.order);
-    reflection::reflect_rows2(a, t, asked.order, rows, k);
-    if asked.wanted {
-        reflection::reflect_rows2(a, q, asked.order, asked.order, k);
+        reflection::reflect_rows_by_vector(a, q, asked.order, asked.order, k);
     }
 }
 
@@ -139,51 +112,47 @@ fn rows_at(k: usize, end: usize) -> usize
 }
 
 // The step at k by the column, in a pass over the window w.
-fn step3(column: Vector3, t: &mut [f64], q: &mut [f64], asked: Setting, w: Window, k: usize)
-    requires { Reaches asked.order (k + 2) t.old × (w.end < asked.order) }
+fn step<const N: usize>(
+    column: &Vector<N>,
+    t: &mut [f64],
+    q: &mut [f64],
+    asked: Setting,
+    w: Window,
+    k: usize,
+)
+    requires { Reaches asked.order k t.old × (k + N ≤ asked.order) × (w.end < asked.order) }
     ensures { pair t.new q.new
-        ≡ step_at asked w k (list3 column) (pair t.old q.old) }
+        ≡ step_at asked w k column.now.0 (pair t.old q.old) }
 {
-    let r = householder::reflection_axis3(column);
+    let numbers: &[f64] = &column.0;
+    let mut axis = *column;
+    let r = householder::reflection_axis_of_vector(&mut axis);
     if !r.reflected {
         return;
     }
-    sweep3(t, asked.order, w.start, k, r.norm);
-    reflect_at3(r.axis, t, q, asked, k, rows_at(k, w.end));
-}
-
-fn step2(column: Vector2, t: &mut [f64], q: &mut [f64], asked: Setting, w: Window, k: usize)
-    requires { Reaches asked.order (k + 1) t.old × (w.end < asked.order) }
-    ensures { pair t.new q.new
-        ≡ step_at asked w k (list2 column) (pair t.old q.old) }
-{
-    let r = householder::reflection_axis2(column);
-    if !r.reflected {
-        return;
-    }
-    sweep2(t, asked.order, w.start, k, r.norm);
-    reflect_at2(r.axis, t, q, asked, k, rows_at(k, w.end));
+    sweep(t, asked.order, w.start, k, numbers.len(), r.norm);
+    reflect_at(&axis, t, q, asked, k, rows_at(k, w.end));
 }
 
 // The column of the step at k: at the start the first column, past it the bulge.
-fn column_at(first: Vector3, t: &[f64], n: usize, start: usize, k: usize) -> Vector3
+fn column_at(first: &Vector<3>, t: &[f64], n: usize, start: usize, k: usize) -> Vector<3>
     requires { Reaches n (k + 2) t.now }
-    ensures { result ≡ column_at n start k first t.now }
+    ensures { result.0 ≡ column_at n start k first.now.0 t.now }
 {
     if k <= start {
-        return first;
+        return *first;
     }
-    bulge3(t, n, k)
+    bulge(t, n, k)
 }
 
 // The step at k by three numbers.
-fn chase(first: Vector3, t: &mut [f64], q: &mut [f64], asked: Setting, w: Window, k: usize)
+fn chase(first: &Vector<3>, t: &mut [f64], q: &mut [f64], asked: Setting, w: Window, k: usize)
     requires { Reaches asked.order w.end t.old × (k + 1 < w.end) }
     ensures { pair t.new q.new
-        ≡ chased asked w first k (pair t.old q.old) }
+        ≡ chased asked w first.now.0 k (pair t.old q.old) }
 {
     let column = column_at(first, t, asked.order, w.start, k);
-    step3(column, t, q, asked, w, k);
+    step(&column, t, q, asked, w, k);
 }
 
 // The last step, by two.
@@ -192,8 +161,8 @@ fn close(t: &mut [f64], q: &mut [f64], asked: Setting, w: Window)
     ensures { pair t.new q.new ≡ closing asked w (pair t.old q.old) }
 {
     let k = w.end - 1;
-    let column = bulge2(t, asked.order, k);
-    step2(column, t, q, asked, w, k);
+    let column: Vector<2> = bulge(t, asked.order, k);
+    step(&column, t, q, asked, w, k);
 }
 
 // Every step of the pass.
@@ -206,7 +175,7 @@ fn shift_here(t: &mut [f64], q: &mut [f64], asked: Setting, w: Window)
     let end = w.end;
     let first = first_column(t, asked.order, start, end);
     for k in start..end - 1 {
-        chase(first, t, q, asked, w, k);
+        chase(&first, t, q, asked, w, k);
     }
     close(t, q, asked, w);
 }

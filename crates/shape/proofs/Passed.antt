@@ -1,26 +1,26 @@
 -- A pass in which no axis vanished: the bulge is made at the window's start, moves on step by step and is swept at its end, and no row below the window is
 -- touched. So T is zero two or more places below its diagonal again, and has the shape from the window's end on, as before. Assumes nothing.
-use Prim.Native.Nat.{ℕ, zero, suc, ◌+◌, ◌-◌, ◌<◌, ◌≤◌}
+use Prim.Native.Nat.{ℕ, ◌+◌, ◌-◌, ◌<◌, ◌≤◌}
 use mathlib.Core.Bool.{true, false}
 use mathlib.Core.Path.{◌≡◌, refl, ap, ◌∙◌, subst}
 use mathlib.Core.List.{List}
-use native.Mathlib.Nat.{add-zero}
 use native.Mathlib.Omega.{arith}
 use borrow.Author.Tests.{le-leb, lt-leb, eq-eqb, ne_eqb}
+use lib.Dec.{leb}
 use lib.ListN.{length}
-use lib.Ieee.{Float}
+use lib.Ieee.{Float, nan}
 use Rattle.loops.proofs.First.{some_none}
 use Rattle.loops.specs.Place.{place}
 use Rattle.loops.specs.Rounded.{◌!◌}
+use Rattle.loops.specs.Table.{table-length, table_at}
+use Rattle.loops.specs.Tests.{cond_hold}
 use Rattle.loops.specs.Times.{range_walk}
 use Rattle.scalar.specs.Class.{is_zero}
-use Rattle.matrix.specs.Vectors.{list2, list3}
-use Rattle.matrix.specs.declared.vector.Vector3.{Vector3}
 use Rattle.matrix.proofs.Fitting.{fitting}
 use Rattle.window.specs.declared.Window.{Window}
 use Rattle.pass.specs.declared.setting.Setting.{Setting}
 use Rattle.pass.specs.Pair.{Pair}
-use Rattle.pass.specs.Pass.{first_column, bulge, bulge_end, column_at, chased, closing, pass_here, pass_of}
+use Rattle.pass.specs.Pass.{first_column, bulge, column_at, chased, closing, pass_here, pass_of}
 use Rattle.schur.specs.declared.run.State.{State}
 use Rattle.schur.specs.Run.{delimiting, after, turn_more}
 use Rattle.shape.specs.Vanished.{too_small, pass_to, axis_column, pass_vanished}
@@ -31,19 +31,22 @@ use Rattle.shape.proofs.Bulge.{Chased, step_chased}
 
 -- ---- a step
 
--- past the first step the column is the bulge's
-bulge_holds : (n s k : ℕ) (first : Vector3) (t : List Float) → s < k → (m : ℕ) → m < 3 → list3 (column_at n s k first t) ! m ≡ t ! place n (k + m) (k - 1)
-unfolding column_at bulge
-bulge_holds n s k first t l zero h = rw (lt-leb k s l, add-zero)
-bulge_holds n s k first t l (suc zero) h = rw (lt-leb k s l)
-bulge_holds n s k first t l (suc (suc zero)) h = rw (lt-leb k s l)
-bulge_holds n s k first t l (suc (suc (suc m))) h = absurd (omega arith)
+bulge-at : (n k rows : ℕ) (t : List Float) (m : ℕ) → m < rows → bulge n k rows t ! m ≡ t ! place n (k + m) (k - 1)
+unfolding bulge
+bulge-at n k rows t m h = table_at rows _ m nan h
 
-end_holds : (n k : ℕ) (t : List Float) (m : ℕ) → m < 2 → list2 (bulge_end n k t) ! m ≡ t ! place n (k + m) (k - 1)
-unfolding bulge_end
-end_holds n k t zero h = rw add-zero
-end_holds n k t (suc zero) h = refl
-end_holds n k t (suc (suc m)) h = absurd (omega arith)
+bulge-length : (n k rows : ℕ) (t : List Float) → length (bulge n k rows t) ≡ rows
+unfolding bulge
+bulge-length n k rows t = table-length rows _
+
+-- the column has three numbers; past the first step it is the bulge's
+column_at-length : (n s k : ℕ) (first t : List Float) → length first ≡ 3 → length (column_at n s k first t) ≡ 3
+unfolding column_at
+column_at-length n s k first t h = cond_hold (λ c. length c ≡ 3) (leb k s) first (bulge n k 3 t) (λ _. h) (bulge-length n k 3 t)
+
+column_holds : (n s k : ℕ) (first t : List Float) → s < k → (m : ℕ) → m < 3 → column_at n s k first t ! m ≡ t ! place n (k + m) (k - 1)
+unfolding column_at
+column_holds n s k first t l m h = rw (lt-leb k s l) (bulge-at n k 3 t m h)
 
 -- ---- the pass
 
@@ -58,8 +61,12 @@ module _ (asked : Setting) (w : Window) (p : Pair) (o : Open asked.order w p.t) 
   abbrev e : ℕ
   e = w.end
 
-  abbrev first : Vector3
+  abbrev first : List Float
   first = first_column n s e p.t
+
+  first-length : length first ≡ 3
+  unfolding first_column
+  first-length = refl
 
   -- the axis of the step at k did not vanish
   no_axis : (k : ℕ) → s ≤ k → k < e → too_small (axis_column asked w p k) ≡ false
@@ -73,18 +80,22 @@ module _ (asked : Setting) (w : Window) (p : Pair) (o : Open asked.order w p.t) 
   chased_on : (k : ℕ) → s ≤ k → k < e - 1 → Chased n s e k p.t (before k).t → Chased n s e (k + 1) p.t (chased asked w first k (before k)).t
   unfolding chased before axis_column
   chased_on k a b z =
-      let column = list3 (column_at n s k first (before k).t) in
+      let column = column_at n s k first (before k).t in
       let far : axis_column asked w p k ≡ column = rw (ne_eqb k (e - 1) (λ q. omega arith)) in
-      step_chased asked w k column p.t (before k) (omega arith) (bulge_holds n s k first (before k).t) (rw far at (no_axis k a (omega arith))) z
+      let long : length column ≡ 3 = column_at-length n s k first (before k).t first-length in
+      step_chased asked w k column p.t (before k) (omega arith) (λ l m h. column_holds n s k first (before k).t l m (omega arith))
+      (rw far at (no_axis k a (omega arith))) z
 
   -- the last step, by two
   closed_off : Chased n s e (e - 1) p.t (before (e - 1)).t → Chased n s e (e - 1 + 1) p.t (closing asked w (before (e - 1))).t
   unfolding closing before axis_column
   closed_off z =
       let k = e - 1 in
-      let column = list2 (bulge_end n k (before k).t) in
+      let column = bulge n k 2 (before k).t in
       let last : axis_column asked w p k ≡ column = rw (eq-eqb k k refl) in
-      step_chased asked w k column p.t (before k) (omega arith) (λ _. end_holds n k (before k).t) (rw last at (no_axis k (omega arith) (omega arith))) z
+      let long : length column ≡ 2 = bulge-length n k 2 (before k).t in
+      step_chased asked w k column p.t (before k) (omega arith) (λ _ m h. bulge-at n k 2 (before k).t m (omega arith))
+      (rw last at (no_axis k (omega arith) (omega arith))) z
 
   here_chased : Chased n s e e p.t (pass_here asked w p).t
   unfolding pass_here before pass_to

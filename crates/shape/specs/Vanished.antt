@@ -6,12 +6,11 @@ use Rattle.std.specs.Prelude.{ℕ, ◌+◌, ◌-◌, Bool, true, false, cond, no
 use Rattle.loops.specs.First.{some}
 use Rattle.loops.specs.Times.{range}
 use Rattle.matrix.specs.Sum.{bare}
-use Rattle.matrix.specs.Vectors.{list2, list3}
 use Rattle.householder.specs.Axis.{Way, way_reflected, way_all_zero, way_too_small, way_of}
 use Rattle.window.specs.declared.Window.{Window}
 use Rattle.pass.specs.declared.setting.Setting.{Setting}
 use Rattle.pass.specs.Pair.{Pair}
-use Rattle.pass.specs.Pass.{first_column, bulge_end, column_at, chased}
+use Rattle.pass.specs.Pass.{first_column, bulge, column_at, chased}
 use Rattle.schur.specs.Run.{Running, run_from, opened_of}
 
 -- ---- a column
@@ -39,7 +38,7 @@ axis_column asked w p k =
     let n = asked.order in
     let first = first_column n w.start w.end p.t in
     let t = (pass_to asked w p k).t in
-    cond (eqb k (w.end - 1)) (list2 (bulge_end n k t)) (list3 (column_at n w.start k first t))
+    cond (eqb k (w.end - 1)) (bulge n k 2 t) (column_at n w.start k first t)
 
 -- in some step, from the window's start to the row above its end
 unfoldable pub pass_vanished : Setting → Window → Pair → Bool

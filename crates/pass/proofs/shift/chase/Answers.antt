@@ -5,4 +5,4 @@ use Rattle.pass.proofs.shift.chase.Goals as goal
 pub returns : goal.returns
 unfolding chased
 returns c =
-    rw (c.step3.ensures, c.column_at-column.ensures)
+    rw (c.step.ensures, c.column_at-column.ensures)

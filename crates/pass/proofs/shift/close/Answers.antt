@@ -5,4 +5,4 @@ use Rattle.pass.proofs.shift.close.Goals as goal
 pub returns : goal.returns
 unfolding closing
 returns c =
-    rw (c.step2.ensures, c.bulge2-column.ensures)
+    rw (c.step.ensures, c.bulge-column.ensures)

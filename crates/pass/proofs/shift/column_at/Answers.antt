@@ -9,4 +9,4 @@ returns-then-k-start c = rw (le-leb _ _ c.if-k-start.true)
 
 pub returns : goal.returns
 unfolding column_at
-returns c = rw (lt-leb _ _ c.if-k-start.false, c.bulge3.ensures)
+returns c = rw (lt-leb _ _ c.if-k-start.false, c.bulge.ensures)

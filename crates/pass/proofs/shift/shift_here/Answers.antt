@@ -27,7 +27,7 @@ returns c =
     let x = c.args in
     let s = x.w.start in
     let e = x.w.end in
-    let done = range_done (chased x.asked x.w c.first_column-first.result) s (e - 1) l.k (pair x.t.now x.q.now) (omega arith) (omega arith)
+    let done = range_done (chased x.asked x.w c.first_column-first.result.0) s (e - 1) l.k (pair x.t.now x.q.now) (omega arith) (omega arith)
     (omega arith) in
     c.close.ensures ∙ ap (closing x.asked x.w) (l.invariant.done ∙ done) ∙ rw c.first_column-first.ensures
 
