@@ -1,6 +1,6 @@
-// The calls: the numbers that each is given in its line, what it is run on, and what is told of it.
-ghost use Rattle.std.specs.Prelude.{◌≡◌};
-
+// The calls. Those of one function below have the same numbers in their lines; no two of them have a call of one name.
+// A function tells nothing, and answers None, where it has no call of this name, where the numbers cannot be read as
+// those of its calls, and where there is no room for them.
 use crate::draw::{drawn, numbers_of};
 use crate::say;
 use crate::vectors::{axis, axis_of, made, rotation, tell, turn, vector};
@@ -21,58 +21,53 @@ fn numbers<const N: usize>(given: &str) -> Option<[usize; N]> {
     words.next().is_none().then_some(found)
 }
 
-// A call that is given a seed.
-fn of_seed<F: FnOnce(usize)>(given: &str, tell: F) -> Option<()>
-    requires { F.IsAlwaysCallable tell }
-{
-    let [seed] = numbers::<1>(given)?;
-    tell(seed);
-    Some(())
-}
-
-// What becomes of a slice that is changed by, or with, the number that would come next.
-fn changed<F: FnOnce(&mut [f64], f64)>(rt: &impl Print, given: &str, change: F) -> Option<()>
-    requires { F.IsAlwaysCallable change }
-{
+// What becomes of a slice, by or with the number that would come next.
+fn slice_changed(rt: &impl Print, name: &str, given: &str) -> Option<()> {
     let [len, seed] = numbers::<2>(given)?;
-    let mut room = numbers_of(seed);
-    let x = room.get_mut(..len)?;
-    change(x, drawn(seed, len));
+    let mut x = numbers_of(seed);
+    let x = x.get_mut(..len)?;
+    let next = drawn(seed, len);
+    match name {
+        "normalize_mut" => matrix::normalize_mut(x),
+        "scale_mut" => matrix::scale_mut(x, next),
+        "unscale_mut" => matrix::unscale_mut(x, next),
+        "fill" => matrix::fill(x, next),
+        "reflection_axis_mut" => {
+            let a = householder::reflection_axis_mut(x);
+            axis(rt, a);
+        }
+        _ => return None,
+    }
     say::numbers(rt, x);
     Some(())
 }
 
-fn summed<F: FnOnce(&[f64]) -> f64>(rt: &impl Print, given: &str, sum: F) -> Option<()>
-    requires { F.IsAlwaysCallable sum }
-{
+fn slice_summed(rt: &impl Print, name: &str, given: &str) -> Option<()> {
     let [len, seed] = numbers::<2>(given)?;
-    let room = numbers_of(seed);
-    say::number(rt, sum(room.get(..len)?));
+    let x = numbers_of(seed);
+    let x = x.get(..len)?;
+    let sum = match name {
+        "norm_squared" => matrix::norm_squared(x),
+        "norm" => matrix::norm(x),
+        "camax" => matrix::camax(x),
+        _ => return None,
+    };
+    say::number(rt, sum);
     Some(())
 }
 
-fn axis_of_slice(rt: &impl Print, given: &str) -> Option<()> {
-    let [len, seed] = numbers::<2>(given)?;
-    let mut room = numbers_of(seed);
-    let x = room.get_mut(..len)?;
-    let a = householder::reflection_axis_mut(x);
-    axis(rt, a, x);
-    Some(())
-}
-
-fn dot(rt: &impl Print, given: &str) -> Option<()> {
-    let [len, others, seed, other] = numbers::<4>(given)?;
-    let (x, y) = (numbers_of(seed), numbers_of(other));
-    say::number(rt, matrix::dot(x.get(..len)?, y.get(..others)?));
-    Some(())
-}
-
-fn copied(rt: &impl Print, given: &str) -> Option<()> {
+fn two_slices(rt: &impl Print, name: &str, given: &str) -> Option<()> {
     let [len, others, seed, other] = numbers::<4>(given)?;
     let (mut x, y) = (numbers_of(seed), numbers_of(other));
-    let x = x.get_mut(..len)?;
-    matrix::copy_from(x, y.get(..others)?);
-    say::numbers(rt, x);
+    let (x, y) = (x.get_mut(..len)?, y.get(..others)?);
+    match name {
+        "dot" => say::number(rt, matrix::dot(x, y)),
+        "copy_from" => {
+            matrix::copy_from(x, y);
+            say::numbers(rt, x);
+        }
+        _ => return None,
+    }
     Some(())
 }
 
@@ -98,68 +93,92 @@ fn block_fits(rt: &impl Print, given: &str) -> Option<()> {
     Some(())
 }
 
-// What a matrix is reflected or rotated by goes by the seed.
-#[derive(Clone, Copy)]
-struct Part {
-    n: usize,
-    row: usize,
-    rows: usize,
-    c0: usize,
-    c1: usize,
-    seed: usize,
+fn of_seed(rt: &impl Print, name: &str, given: &str) -> Option<()> {
+    let [seed] = numbers::<1>(given)?;
+    let (u, v) = (vector::<2>(seed), vector::<3>(seed));
+    let (x, y, z, divisor) = (
+        drawn(seed, 0),
+        drawn(seed, 1),
+        drawn(seed, 2),
+        drawn(seed, 3),
+    );
+    match name {
+        "Vector2::dot" => say::number(rt, u.dot(&vector(16))),
+        "Vector3::dot" => say::number(rt, v.dot(&vector(16))),
+        "Vector2::norm_squared" => say::number(rt, u.norm_squared()),
+        "Vector3::norm_squared" => say::number(rt, v.norm_squared()),
+        "Vector2::norm" => say::number(rt, u.norm()),
+        "Vector3::norm" => say::number(rt, v.norm()),
+        "Vector2::unscale" => tell(rt, &u.unscale(divisor)),
+        "Vector3::unscale" => tell(rt, &v.unscale(divisor)),
+        "Vector2::normalize" => tell(rt, &u.normalize()),
+        "Vector3::normalize" => tell(rt, &v.normalize()),
+        "reflection_axis2" => axis_of(rt, u),
+        "reflection_axis3" => axis_of(rt, v),
+        "Rotation::identity" => rotation(rt, Rotation::identity()),
+        "Rotation::new" => turn(rt, Rotation::new(x, y)),
+        "Rotation::try_new" => made(rt, Rotation::try_new(x, y, scalar::modulus(z))),
+        "Rotation::cancel_y" => made(rt, Rotation::cancel_y(y, x)),
+        "Rotation::inverse" => rotation(rt, Rotation { c: x, s: y }.inverse()),
+        _ => return None,
+    }
+    Some(())
 }
 
-// What becomes of a matrix; a slice is drawn for the axis.
-fn moved<F: FnOnce(&mut [f64], Part, &[f64])>(rt: &impl Print, given: &str, change: F) -> Option<()>
-    requires { F.IsAlwaysCallable change }
-{
+// What becomes of a matrix. The sign is NaN for NaN.
+fn matrix_moved(rt: &impl Print, name: &str, given: &str) -> Option<()> {
     let [n, len, others, row, rows, c0, c1, first, seed] = numbers::<9>(given)?;
     let (mut t, a) = (numbers_of(first), numbers_of(seed));
-    let t = t.get_mut(..len)?;
-    let part = Part {
-        n,
-        row,
-        rows,
-        c0,
-        c1,
-        seed,
-    };
-    change(t, part, a.get(..others)?);
+    let (t, a) = (t.get_mut(..len)?, a.get(..others)?);
+    let (u, v) = (vector::<2>(seed), vector::<3>(seed));
+    let sign = scalar::signum(drawn(seed, 9));
+    let by = Rotation::new(drawn(seed, 0), drawn(seed, 1)).rotation;
+    match name {
+        "rotate" => by.rotate(t, n, row, c0, c1),
+        "rotate_rows" => by.rotate_rows(t, n, c0, rows),
+        "reflect" => reflection::reflect(a, t, n, row, c0, c1),
+        "reflect3" => reflection::reflect_by_vector(&v, t, n, row, c0, c1),
+        "reflect2" => reflection::reflect_by_vector(&u, t, n, row, c0, c1),
+        "reflect_with_sign" => reflection::reflect_with_sign(a, t, n, row, c0, c1, sign),
+        "reflect3_with_sign" => reflection::reflect_by_vector_with_sign(&v, t, n, row, c0, c1, sign),
+        "reflect2_with_sign" => reflection::reflect_by_vector_with_sign(&u, t, n, row, c0, c1, sign),
+        "reflect_rows" => reflection::reflect_rows(a, t, n, rows, c0),
+        "reflect_rows3" => reflection::reflect_rows_by_vector(&v, t, n, rows, c0),
+        "reflect_rows2" => reflection::reflect_rows_by_vector(&u, t, n, rows, c0),
+        "reflect_rows_with_sign" => reflection::reflect_rows_with_sign(a, t, n, rows, c0, sign),
+        "reflect_rows3_with_sign" => reflection::reflect_rows_by_vector_with_sign(&v, t, n, rows, c0, sign),
+        "reflect_rows2_with_sign" => reflection::reflect_rows_by_vector_with_sign(&u, t, n, rows, c0, sign),
+        _ => return None,
+    }
     say::numbers(rt, t);
     Some(())
 }
 
-// NaN for NaN.
-fn sign(seed: usize) -> f64 {
-    scalar::signum(drawn(seed, 9))
-}
-
-fn rotation_of(seed: usize) -> Rotation {
-    Rotation::new(drawn(seed, 0), drawn(seed, 1)).rotation
-}
-
-// Clears a column, and tells of the norm, the matrix and the workspace.
-fn cleared<F: FnOnce(f64, &[f64], &[f64])>(given: &str, tell: F) -> Option<()>
-    requires { F.IsAlwaysCallable tell }
-{
+fn column_cleared(rt: &impl Print, name: &str, given: &str) -> Option<()> {
     let [n, len, others, icol, seed] = numbers::<5>(given)?;
     let (mut t, mut work) = (numbers_of(seed), numbers_of(40));
-    let t = t.get_mut(..len)?;
-    let work = work.get_mut(..others)?;
+    let (t, work) = (t.get_mut(..len)?, work.get_mut(..others)?);
     let norm = householder::clear_column(t, n, icol, work);
-    tell(norm, t, work);
+    match name {
+        "clear_column" => {
+            say::number(rt, norm);
+            say::numbers(rt, work);
+        }
+        "clear_column, matrix" => say::numbers(rt, t),
+        _ => return None,
+    }
     Some(())
 }
 
-fn q_of(rt: &impl Print, t: &[f64], n: usize, signs: &[f64], q: &mut [f64]) {
+fn assemble(rt: &impl Print, t: &[f64], n: usize, signs: &[f64], q: &mut [f64]) {
     householder::assemble_q(t, n, signs, q);
     say::numbers(rt, q);
 }
 
-fn assembled(rt: &impl Print, given: &str) -> Option<()> {
+fn assemble_q(rt: &impl Print, given: &str) -> Option<()> {
     let [n, len, others, columns, seed] = numbers::<5>(given)?;
     let (t, signs, mut q) = (numbers_of(seed), numbers_of(13), numbers_of(48));
-    q_of(
+    assemble(
         rt,
         t.get(..len)?,
         n,
@@ -181,163 +200,47 @@ fn clear_all(t: &mut [f64], n: usize, signs: &mut [f64]) -> f64 {
     norm
 }
 
-// Reduces a matrix by so many columns, and tells of the last norm, the matrix and the signs. None where the order is
-// above 9.
-fn reduced<F: FnOnce(f64, &[f64], &[f64])>(
-    n: usize,
-    seed: usize,
-    columns: usize,
-    tell: F,
-) -> Option<()>
-    requires { F.IsAlwaysCallable tell }
-{
-    let mut t = numbers_of(seed);
-    let t = t.get_mut(..n.checked_mul(n)?)?;
-    let mut signs = [0.0; 9];
-    let signs = signs.get_mut(..columns)?;
-    let norm = clear_all(t, n, signs);
-    tell(norm, t, signs);
+// All columns of a matrix of order 9 at most, and Q put together from what that leaves.
+fn reduced(rt: &impl Print, name: &str, given: &str) -> Option<()> {
+    let [n, seed] = numbers::<2>(given)?;
+    let (mut t, mut signs, mut q) = (numbers_of(seed), [0.0; 9], numbers_of(48));
+    let size = n.checked_mul(n)?;
+    let (t, signs, q) = (t.get_mut(..size)?, signs.get_mut(..n)?, q.get_mut(..size)?);
+    clear_all(t, n, signs);
+    match name {
+        "reduce, matrix" => say::numbers(rt, t),
+        "reduce, Q" => assemble(rt, t, n, signs, q),
+        _ => return None,
+    }
     Some(())
 }
 
-fn reduced_matrix(rt: &impl Print, given: &str) -> Option<()> {
-    let [n, seed] = numbers::<2>(given)?;
-    reduced(n, seed, n, |_, t, _| say::numbers(rt, t))
-}
-
-fn reduced_q(rt: &impl Print, given: &str) -> Option<()> {
-    let [n, seed] = numbers::<2>(given)?;
-    let mut q = numbers_of(48);
-    let q = q.get_mut(..n.checked_mul(n)?)?;
-    reduced(n, seed, n, |_, t, signs| q_of(rt, t, n, signs, q))
-}
-
-// All columns up to this one.
-fn reduced_column(rt: &impl Print, given: &str) -> Option<()> {
+// The columns up to this one.
+fn reduced_to_column(rt: &impl Print, given: &str) -> Option<()> {
     let [n, seed, icol] = numbers::<3>(given)?;
     if n <= icol {
         return None;
     }
-    reduced(n, seed, icol + 1, |norm, _, _| say::number(rt, norm))
+    let (mut t, mut signs) = (numbers_of(seed), [0.0; 9]);
+    let t = t.get_mut(..n.checked_mul(n)?)?;
+    say::number(rt, clear_all(t, n, signs.get_mut(..icol + 1)?));
+    Some(())
 }
 
-// Runs a call on its numbers, and tells what it answers or leaves: None where it is not understood.
+// Runs a call on its numbers, and tells what it answers or leaves.
 pub(crate) fn run(rt: &impl Print, name: &str, given: &str) -> Option<()> {
     match name {
-        "normalize_mut" => changed(rt, given, |x, _| matrix::normalize_mut(x)),
-        "scale_mut" => changed(rt, given, |x, next| matrix::scale_mut(x, next)),
-        "unscale_mut" => changed(rt, given, |x, next| matrix::unscale_mut(x, next)),
-        "fill" => changed(rt, given, |x, next| matrix::fill(x, next)),
-        "reflection_axis_mut" => axis_of_slice(rt, given),
-        "norm_squared" => summed(rt, given, |x| matrix::norm_squared(x)),
-        "norm" => summed(rt, given, |x| matrix::norm(x)),
-        "camax" => summed(rt, given, |x| matrix::camax(x)),
-        "dot" => dot(rt, given),
-        "copy_from" => copied(rt, given),
         "put" => put(rt, given),
         "entry" => entry(rt, given),
         "block_fits" => block_fits(rt, given),
-
-        "Vector2::dot" => of_seed(given, |s| say::number(rt, vector::<2>(s).dot(&vector(16)))),
-        "Vector3::dot" => of_seed(given, |s| say::number(rt, vector::<3>(s).dot(&vector(16)))),
-        "Vector2::norm_squared" => of_seed(given, |s| say::number(rt, vector::<2>(s).norm_squared())),
-        "Vector3::norm_squared" => of_seed(given, |s| say::number(rt, vector::<3>(s).norm_squared())),
-        "Vector2::norm" => of_seed(given, |s| say::number(rt, vector::<2>(s).norm())),
-        "Vector3::norm" => of_seed(given, |s| say::number(rt, vector::<3>(s).norm())),
-        "Vector2::unscale" => of_seed(given, |s| tell(rt, &vector::<2>(s).unscale(drawn(s, 3)))),
-        "Vector3::unscale" => of_seed(given, |s| tell(rt, &vector::<3>(s).unscale(drawn(s, 3)))),
-        "Vector2::normalize" => of_seed(given, |s| tell(rt, &vector::<2>(s).normalize())),
-        "Vector3::normalize" => of_seed(given, |s| tell(rt, &vector::<3>(s).normalize())),
-        "reflection_axis2" => of_seed(given, |s| axis_of::<2>(rt, s)),
-        "reflection_axis3" => of_seed(given, |s| axis_of::<3>(rt, s)),
-
-        "Rotation::identity" => of_seed(given, |_| rotation(rt, Rotation::identity())),
-        "Rotation::new" => of_seed(given, |s| turn(rt, Rotation::new(drawn(s, 0), drawn(s, 1)))),
-        "Rotation::try_new" => of_seed(given, |s| {
-            let tolerance = scalar::modulus(drawn(s, 2));
-            made(rt, Rotation::try_new(drawn(s, 0), drawn(s, 1), tolerance));
-        }),
-        // The second number first.
-        "Rotation::cancel_y" => of_seed(
-            given,
-            |s| made(rt, Rotation::cancel_y(drawn(s, 1), drawn(s, 0))),
-        ),
-        "Rotation::inverse" => of_seed(given, |s| {
-            let given = Rotation {
-                c: drawn(s, 0),
-                s: drawn(s, 1),
-            };
-            rotation(rt, given.inverse());
-        }),
-
-        "rotate" => moved(
-            rt,
-            given,
-            |t, p, _| rotation_of(p.seed).rotate(t, p.n, p.row, p.c0, p.c1),
-        ),
-        "rotate_rows" => moved(
-            rt,
-            given,
-            |t, p, _| rotation_of(p.seed).rotate_rows(t, p.n, p.c0, p.rows),
-        ),
-        "reflect" => moved(
-            rt,
-            given,
-            |t, p, a| reflection::reflect(a, t, p.n, p.row, p.c0, p.c1),
-        ),
-        "reflect3" => moved(
-            rt,
-            given,
-            |t, p, _| reflection::reflect_by_vector(&vector::<3>(p.seed), t, p.n, p.row, p.c0, p.c1),
-        ),
-        "reflect2" => moved(
-            rt,
-            given,
-            |t, p, _| reflection::reflect_by_vector(&vector::<2>(p.seed), t, p.n, p.row, p.c0, p.c1),
-        ),
-        "reflect_with_sign" => moved(rt, given, |t, p, a| {
-            reflection::reflect_with_sign(a, t, p.n, p.row, p.c0, p.c1, sign(p.seed));
-        }),
-        "reflect3_with_sign" => moved(rt, given, |t, p, _| {
-            reflection::reflect_by_vector_with_sign(&vector::<3>(p.seed), t, p.n, p.row, p.c0, p.c1, sign(p.seed));
-        }),
-        "reflect2_with_sign" => moved(rt, given, |t, p, _| {
-            reflection::reflect_by_vector_with_sign(&vector::<2>(p.seed), t, p.n, p.row, p.c0, p.c1, sign(p.seed));
-        }),
-        "reflect_rows" => moved(
-            rt,
-            given,
-            |t, p, a| reflection::reflect_rows(a, t, p.n, p.rows, p.c0),
-        ),
-        "reflect_rows3" => moved(
-            rt,
-            given,
-            |t, p, _| reflection::reflect_rows_by_vector(&vector::<3>(p.seed), t, p.n, p.rows, p.c0),
-        ),
-        "reflect_rows2" => moved(
-            rt,
-            given,
-            |t, p, _| reflection::reflect_rows_by_vector(&vector::<2>(p.seed), t, p.n, p.rows, p.c0),
-        ),
-        "reflect_rows_with_sign" => moved(rt, given, |t, p, a| {
-            reflection::reflect_rows_with_sign(a, t, p.n, p.rows, p.c0, sign(p.seed));
-        }),
-        "reflect_rows3_with_sign" => moved(rt, given, |t, p, _| {
-            reflection::reflect_rows_by_vector_with_sign(&vector::<3>(p.seed), t, p.n, p.rows, p.c0, sign(p.seed));
-        }),
-        "reflect_rows2_with_sign" => moved(rt, given, |t, p, _| {
-            reflection::reflect_rows_by_vector_with_sign(&vector::<2>(p.seed), t, p.n, p.rows, p.c0, sign(p.seed));
-        }),
-
-        "clear_column" => cleared(given, |norm, _, work| {
-            say::number(rt, norm);
-            say::numbers(rt, work);
-        }),
-        "clear_column, matrix" => cleared(given, |_, t, _| say::numbers(rt, t)),
-        "assemble_q" => assembled(rt, given),
-        "reduce, matrix" => reduced_matrix(rt, given),
-        "reduce, Q" => reduced_q(rt, given),
-        "reduce, column" => reduced_column(rt, given),
-        _ => None,
+        "assemble_q" => assemble_q(rt, given),
+        "reduce, column" => reduced_to_column(rt, given),
+        _ => slice_changed(rt, name, given)
+            .or_else(|| slice_summed(rt, name, given))
+            .or_else(|| two_slices(rt, name, given))
+            .or_else(|| of_seed(rt, name, given))
+            .or_else(|| matrix_moved(rt, name, given))
+            .or_else(|| column_cleared(rt, name, given))
+            .or_else(|| reduced(rt, name, given)),
     }
 }

@@ -14,20 +14,21 @@ mod vectors;
 
 use std::io::Read;
 
-// The longest text.
-const ROOM: u64 = 65535;
+// A text has fewer bytes.
+const ROOM: usize = 65536;
 
-// A line's call: None where it is not understood.
+// A line's name ends where a number begins behind a space: there are spaces in names too.
 fn call(rt: &impl Print, line: &[u8]) -> Option<()> {
-    // The name ends where a number begins behind a space.
     let end = line
         .windows(2)
-        .position(|w| matches!(w, [b' ', b'0'..=b'9']))?;
+        .position(|pair| matches!(pair, [b' ', b'0'..=b'9']))?;
     let text = str::from_utf8(line).ok()?;
-    calls::run(rt, text.get(..end)?, text.get(end..)?.strip_prefix(' ')?)
+    let (name, given) = (text.get(..end)?, text.get(end..)?);
+    calls::run(rt, name, given.strip_prefix(' ')?)
 }
 
-fn read_line(rt: &impl Print, number: usize, line: &[u8]) {
+// Blank lines and lines that begin with # are left out.
+fn tell(rt: &impl Print, number: usize, line: &[u8]) {
     if line.is_empty() || line.starts_with(b"#") {
         return;
     }
@@ -38,14 +39,14 @@ fn read_line(rt: &impl Print, number: usize, line: &[u8]) {
     let _ = println!(rt);
 }
 
+// A read that fails ends the text, and a write that fails is passed over.
 fn main(rt: HostRuntime) {
     let mut text = Vec::new(rt.alloc());
-    // A read that fails ends the text.
-    let _ = rt.stdin().take(65536).read_to_end(&mut text);
-    for (number, line) in (1..).zip(text.split(|b| *b == b'\n')) {
-        read_line(&rt, number, line);
+    let _ = rt.stdin().take(ROOM as u64).read_to_end(&mut text);
+    for (number, line) in (1..).zip(text.split(|byte| *byte == b'\n')) {
+        tell(&rt, number, line);
     }
-    if text.len() == 65536 {
+    if text.len() == ROOM {
         let _ = println!(rt; "not understood: more text than there is room for");
     }
 }

@@ -18,17 +18,16 @@ pub(crate) fn tell<const N: usize>(rt: &impl Print, v: &Vector<N>) {
     say::numbers(rt, &v.0);
 }
 
-pub(crate) fn axis(rt: &impl Print, a: Axis, column: &[f64]) {
+pub(crate) fn axis(rt: &impl Print, a: Axis) {
     say::number(rt, a.norm);
     say::flag(rt, a.reflected);
-    say::numbers(rt, column);
 }
 
-// The axis of a vector of a seed.
-pub(crate) fn axis_of<const N: usize>(rt: &impl Print, seed: usize) {
-    let mut column = vector::<N>(seed);
-    let a = householder::reflection_axis_of_vector(&mut column);
-    axis(rt, a, &column.0);
+// What the column becomes is told too.
+pub(crate) fn axis_of<const N: usize>(rt: &impl Print, column: Vector<N>) {
+    let mut v = column;
+    axis(rt, householder::reflection_axis_of_vector(&mut v));
+    tell(rt, &v);
 }
 
 pub(crate) fn rotation(rt: &impl Print, r: Rotation) {
