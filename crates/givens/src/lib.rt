@@ -7,14 +7,14 @@ ghost use Rattle.givens.specs.Rotation.{identity_of, inverse_of, try_new, new_of
 ghost use Rattle.givens.specs.Rotated.{rotated, rotated_rows};
 
 // Cosine and sine.
-#[derive(Clone, Copy)]
+#[derive(Clone, Copy, Debug, PartialEq)]
 pub struct Rotation {
     pub c: f64,
     pub s: f64,
 }
 
 // A rotation, with the norm of the pair that it was made from.
-#[derive(Clone, Copy)]
+#[derive(Clone, Copy, Debug, PartialEq)]
 pub struct Turn {
     pub rotation: Rotation,
     pub norm: f64,
@@ -100,8 +100,8 @@ impl Rotation {
         }
     }
 
-    // Turns rows i and i + 1 of the matrix t of order n, in the columns from c0 to below c1. Nothing is
-    // done where they do not lie in the matrix.
+    // Turns rows i and i + 1 of the matrix t of order n, in the columns from c0 to below c1. A no-op
+    // unless they lie in the matrix.
     pub fn rotate(self, t: &mut [f64], n: usize, i: usize, c0: usize, c1: usize)
         ensures { t.new ≡ rotated self n i c0 c1 t.old }
     {
@@ -120,8 +120,8 @@ impl Rotation {
         }
     }
 
-    // Turns columns k and k + 1 of the matrix t of order n, in its first `rows` rows. Nothing is done
-    // where they do not lie in the matrix.
+    // Turns columns k and k + 1 of the matrix t of order n, in its first `rows` rows. A no-op unless
+    // they lie in the matrix.
     pub fn rotate_rows(self, t: &mut [f64], n: usize, k: usize, rows: usize)
         ensures { t.new ≡ rotated_rows self n k rows t.old }
     {

@@ -6,4 +6,4 @@ pub mod Lent
 pub mod One
 mod Identity
 mod Empty
-mod Bounds
+pub mod Bounds

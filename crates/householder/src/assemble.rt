@@ -16,7 +16,7 @@ fn fill_with_identity(q: &mut [f64], n: usize)
 }
 
 // Q from the axes that stand below the diagonal of m, both of order n: column i's axis with the sign of
-// signs[i], also where no reflection was made. Nothing is done where a slice is too short or too long.
+// signs[i], also where no reflection was made. A no-op unless m and q have n * n numbers, and signs n - 1.
 #[tactic(auto, using(crate::proofs::Bounds::bounds), unfolding(crate::specs::Assembled::assembled))]
 pub fn assemble_q(m: &[f64], n: usize, signs: &[f64], q: &mut [f64])
     ensures { q.new ≡ assembled n m.now signs.now q.old }

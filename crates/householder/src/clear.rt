@@ -22,8 +22,8 @@ fn reflect_both_sides(t: &mut [f64], n: usize, k: usize, work: &mut [f64], sign:
 }
 
 // Clears column icol of the matrix t of order n below the entry under its diagonal, by a reflection of
-// both sides, and leaves the reflection's axis there. Answers the norm with its sign; NaN, with nothing
-// done, where there is no row below row icol or `work` is shorter than n.
+// both sides, and leaves the reflection's axis there. Answers the norm with its sign; a no-op that answers
+// NaN unless there is a row below row icol and `work` has n numbers or more.
 #[tactic(auto, using(crate::proofs::Bounds::bounds), unfolding(crate::specs::Cleared::clear_of))]
 pub fn clear_column(t: &mut [f64], n: usize, icol: usize, work: &mut [f64]) -> f64
     ensures { cleared result t.new work.new

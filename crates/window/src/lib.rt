@@ -83,7 +83,7 @@ fn delimit_here(t: &mut [f64], n: usize, eps: f64, end: usize) -> Window
     Window { start: s, end: e }
 }
 
-// The same for every argument: a closed window, with nothing done, where t has no row `end`.
+// The same for every argument: a no-op that answers a closed window unless t has a row `end`.
 pub fn delimit_subproblem(t: &mut [f64], n: usize, eps: f64, end: usize) -> Window
     ensures { (delimited result t.new ≡ delimit_of n eps end t.old) × (result.end ≤ end)
         × (result.start ≤ result.end) }
