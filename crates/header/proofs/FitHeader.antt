@@ -33,7 +33,7 @@ unfolding examined by_checks record_checks
 fit_header {h} b e = go (record_checks b) refl
   where
     go : (c : Checked) → record_checks b ≡ c → FitHeader h (length b)
-    go passed f =
+    go (Ok u) f =
         let is : h ≡ header_of b = cc in
         rw is (passed_fits (header_of b) (length b) (next_passed _ _ f).1)
     go (Err r) f = absurd (let x : ◌≡◌ {A = ℕ} 0 1 = cc in omega arith)

@@ -1,4 +1,2 @@
 -- The header of a record of `looproots`. `Record`: what lies where, what is checked of it, and what that comes to.
--- `Read` serves the contracts of private functions.
 pub mod Record
-pub mod Read

@@ -2,14 +2,12 @@
 // byte comes first.
 #![tactic(auto)]
 
-ghost use Rattle.std.specs.Prelude.{◌≡◌, ◌+◌, ◌*◌, ◌<◌, ◌≤◌, ◌^◌, length, get_or};
-ghost use Rattle.words.specs.Words.{le64};
-ghost use Rattle.header.specs.Record.{le16, le32, header_of, header_checks, examined};
-ghost use Rattle.header.specs.Read.{FieldRead, HeaderRead};
+ghost use Rattle.std.specs.Prelude.{◌≡◌, ◌+◌, ◌*◌, ◌≤◌, length, take, drop};
+ghost use Rattle.header.specs.Record.{header_of, header_checks, examined};
 
 use refusal::Refusal;
 
-#[derive(Clone, Copy)]
+#[derive(Clone, Copy, Debug, PartialEq, Eq)]
 pub struct Header {
     pub length: u64,
     pub kind: u64,
@@ -18,53 +16,34 @@ pub struct Header {
     pub tolerance: u64,
 }
 
-fn byte(b: &[u8], at: usize) -> u64
-    requires { at < length b.now }
-    ensures { FieldRead (get_or b.now at 0) 256 result }
+// The N bytes from `at` on.
+fn bytes<const N: usize>(b: &[u8], at: usize) -> [u8; N]
+    requires { at + N ≤ length b.now }
+    ensures { result ≡ take N (drop at b.now) }
 {
-    b[at] as u64
-}
-
-fn two(b: &[u8], at: usize) -> u64
-    requires { at + 2 ≤ length b.now }
-    ensures { FieldRead (le16 b.now at) 65536 result }
-{
-    byte(b, at) + byte(b, at + 1) * 256
-}
-
-fn four(b: &[u8], at: usize) -> u64
-    requires { at + 4 ≤ length b.now }
-    ensures { FieldRead (le32 b.now at) (2 ^ 32) result }
-{
-    two(b, at) + two(b, at + 2) * 65536
-}
-
-fn eight(b: &[u8], at: usize) -> u64
-    requires { at + 8 ≤ length b.now }
-    ensures { result ≡ le64 b.now at }
-{
-    four(b, at) + four(b, at + 4) * 4294967296
+    b[at..at + N].try_into().unwrap()
 }
 
 fn read_header(b: &[u8]) -> Header
     requires { 20 ≤ length b.now }
-    ensures { HeaderRead b.now result }
+    ensures { result ≡ header_of b.now }
 {
-    let length = four(b, 0);
-    let kind = two(b, 4);
-    let order = two(b, 6) as usize;
-    let budget = four(b, 8);
-    let tolerance = eight(b, 12);
+    let length = u32::from_le_bytes(bytes(b, 0));
+    let kind = u16::from_le_bytes(bytes(b, 4));
+    let order = u16::from_le_bytes(bytes(b, 6));
+    let budget = u32::from_le_bytes(bytes(b, 8));
+    let tolerance = u64::from_le_bytes(bytes(b, 12));
     Header {
-        length,
-        kind,
-        order,
-        budget,
+        length: length.into(),
+        kind: kind.into(),
+        order: order.into(),
+        budget: budget.into(),
         tolerance,
     }
 }
 
 // The length that a record of this order tells, in bytes after the field itself.
+#[tactic(auto, using(crate::proofs::Rooms::square_32))]
 fn told(order: usize) -> u64
     requires { order ≤ 32 }
     ensures { result ≡ 16 + 8 * (order * order) }
@@ -72,30 +51,28 @@ fn told(order: usize) -> u64
     (16 + 8 * (order * order)) as u64
 }
 
-// In the order of document 01, for an input of so many bytes.
+// In the order of document 01, for an input of so many bytes. 1 is the only kind, so an enum of kinds would say no
+// more than the number.
+#[tactic(auto, using(crate::proofs::Rooms::checking), unfolding(crate::specs::Record::header_checks))]
 fn check(h: Header, bytes: u64) -> Result<(), Refusal>
-    requires { h.length < 2 ^ 32 }
     ensures { result ≡ header_checks h bytes }
 {
-    let kind = h.kind;
-    let order = h.order;
-    let length = h.length;
-    if kind != 1 {
+    if h.kind != 1 {
         return Err(Refusal::UnknownKind);
     }
-    if order == 0 {
+    if h.order == 0 {
         return Err(Refusal::OrderZero);
     }
-    if order > 32 {
+    if h.order > 32 {
         return Err(Refusal::OrderTooLarge);
     }
-    if length != told(order) {
+    if h.length != told(h.order) {
         return Err(Refusal::InputLengthWrong);
     }
-    if bytes < 4 + length {
+    if bytes < 4 + h.length {
         return Err(Refusal::InputCutShort);
     }
-    if 4 + length < bytes {
+    if 4 + h.length < bytes {
         return Err(Refusal::InputLengthWrong);
     }
     Ok(())
@@ -109,8 +86,6 @@ pub fn examine(input: &[u8]) -> Result<Header, Refusal>
         return Err(Refusal::InputCutShort);
     }
     let h = read_header(input);
-    match check(h, input.len() as u64) {
-        Err(r) => Err(r),
-        Ok(()) => Ok(h),
-    }
+    check(h, input.len() as u64)?;
+    Ok(h)
 }

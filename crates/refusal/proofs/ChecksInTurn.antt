@@ -34,7 +34,23 @@ pub next_refused : {r : Refusal} (c d : Checked) → c ≡ Err r → (c next d) 
 unfolding ◌next◌
 next_refused c d h = rw h
 
--- In code: what is behind a check, where it has passed and where it has refused.
+-- In code: what each word comes to, and what is behind a check that has passed or refused. `grind` makes checks in turn of these.
+pub refuse_fault : (r : Refusal) → refuse true r ≡ Err r
+unfolding refuse
+refuse_fault r = refl
+
+pub refuse_none : (r : Refusal) → refuse false r ≡ passed
+unfolding refuse
+refuse_none r = refl
+
+pub refuse_at_some : (f : Place → Refusal) (p : Place) → refuse_at f (Some p) ≡ Err (f p)
+unfolding refuse_at
+refuse_at_some f p = refl
+
+pub refuse_at_none : (f : Place → Refusal) → refuse_at f None ≡ passed
+unfolding refuse_at
+refuse_at_none f = refl
+
 pub next_ok : (u : Unit {0}) (d : Checked) → (Ok u next d) ≡ d
 unfolding ◌next◌
 next_ok u d = refl
@@ -43,7 +59,7 @@ pub next_err : (r : Refusal) (d : Checked) → (Err r next d) ≡ Err r
 unfolding ◌next◌
 next_err r d = refl
 
-pub ruleset in_turn = (next_ok, next_err)
+pub ruleset in_turn = (refuse_fault, refuse_none, refuse_at_some, refuse_at_none, next_ok, next_err)
 
 -- In code: a check has come to x, which is what c says. If it refuses, that is what c and all behind it come to; if it passes, they come to what is left.
 pub next_first : {r : Refusal} {x c : Checked} (d : Checked) → x ≡ c → x ≡ Err r → x ≡ (c next d)

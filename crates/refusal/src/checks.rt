@@ -1,7 +1,5 @@
 // The checks that several entries make, each with the refusal that it comes to. Those who make several in turn
 // answer the first that does not pass.
-#![tactic(auto, using(crate::proofs::ChecksInTurn::in_turn), unfolding(crate::specs::Checks::order_checks, crate::specs::Checks::length_check, crate::specs::Checks::only_if, crate::specs::Checks::lent_lengths, crate::specs::Checks::matrix_lengths, crate::specs::Checks::entry_checks, crate::specs::Checks::given_checks, crate::specs::Refusal::refuse, crate::specs::Refusal::refuse_at))]
-
 ghost use Rattle.std.specs.Prelude.{◌≡◌, length, ◌*◌};
 ghost use Rattle.refusal.specs.declared.refusal.Refusal.TheVariants.{WrongLength, ResultNotFinite, ShapeSpoiled};
 ghost use Rattle.refusal.specs.Refusal.{refuse_at, ◌next◌};
@@ -13,6 +11,7 @@ use crate::refusal::Refusal;
 use crate::search::{first_not_finite, first_spoiling};
 
 // The order is 0: 1. It is above 64: 2.
+#[tactic(auto, using(crate::proofs::ChecksInTurn::in_turn), unfolding(crate::specs::Checks::order_checks))]
 pub fn check_order(n: usize) -> Result<(), Refusal>
     ensures { result ≡ order_checks n }
 {
@@ -26,6 +25,7 @@ pub fn check_order(n: usize) -> Result<(), Refusal>
 }
 
 // What is lent has another length than it needs.
+#[tactic(auto, using(crate::proofs::ChecksInTurn::in_turn), unfolding(crate::specs::Checks::length_check))]
 pub fn check_length(has: usize, needs: usize, fault: Refusal) -> Result<(), Refusal>
     ensures { result ≡ length_check fault has needs }
 {
@@ -36,6 +36,7 @@ pub fn check_length(has: usize, needs: usize, fault: Refusal) -> Result<(), Refu
 }
 
 // What is lent for T, then for Q if it is wanted.
+#[tactic(auto, using(crate::proofs::ChecksInTurn::in_turn), unfolding(crate::specs::Checks::lent_lengths, crate::specs::Checks::only_if))]
 pub fn check_lent(wanted: bool, needs: usize, tn: usize, qn: usize) -> Result<(), Refusal>
     ensures { result ≡ lent_lengths wanted needs tn qn }
 {
@@ -47,6 +48,7 @@ pub fn check_lent(wanted: bool, needs: usize, tn: usize, qn: usize) -> Result<()
 }
 
 // The matrix, then what is lent for T and Q.
+#[tactic(auto, using(crate::proofs::ChecksInTurn::in_turn), unfolding(crate::specs::Checks::matrix_lengths))]
 pub fn check_matrices(
     wanted: bool,
     needs: usize,
@@ -61,6 +63,7 @@ pub fn check_matrices(
 }
 
 // The order, then the lengths: the matrix's, and what the others have come to.
+#[tactic(auto, using(crate::proofs::ChecksInTurn::in_turn))]
 pub fn check_sizes(n: usize, mn: usize, others: Result<(), Refusal>) -> Result<(), Refusal>
     ensures { result ≡ (order_checks n next length_check WrongLength mn (n * n) next others) }
 {
@@ -70,6 +73,7 @@ pub fn check_sizes(n: usize, mn: usize, others: Result<(), Refusal>) -> Result<(
 }
 
 // An entry handed in is NaN or infinite: 6.
+#[tactic(auto, using(crate::proofs::ChecksInTurn::in_turn), unfolding(crate::specs::Checks::entry_checks))]
 pub fn check_entries(m: &[f64], n: usize) -> Result<(), Refusal>
     ensures { result ≡ entry_checks n m.now }
 {
@@ -80,6 +84,7 @@ pub fn check_entries(m: &[f64], n: usize) -> Result<(), Refusal>
 }
 
 // The order, the lengths, the entries; `others` are the lengths of what is lent beside the matrix.
+#[tactic(auto, using(crate::proofs::ChecksInTurn::in_turn), unfolding(crate::specs::Checks::given_checks))]
 pub fn check_given(m: &[f64], n: usize, others: Result<(), Refusal>) -> Result<(), Refusal>
     ensures { result
         ≡ given_checks (length_check WrongLength (length m.now) (n * n) next others) n m.now }
@@ -89,6 +94,7 @@ pub fn check_given(m: &[f64], n: usize, others: Result<(), Refusal>) -> Result<(
 }
 
 // An entry that was worked out is NaN or infinite: 8.
+#[tactic(auto, using(crate::proofs::ChecksInTurn::in_turn))]
 pub fn check_result(t: &[f64], n: usize) -> Result<(), Refusal>
     ensures { result ≡ refuse_at ResultNotFinite (first_not_finite n t.now) }
 {
@@ -99,6 +105,7 @@ pub fn check_result(t: &[f64], n: usize) -> Result<(), Refusal>
 }
 
 // An entry spoils the quasi-triangular shape: 9.
+#[tactic(auto, using(crate::proofs::ChecksInTurn::in_turn))]
 pub fn check_shape(t: &[f64], n: usize) -> Result<(), Refusal>
     ensures { result ≡ refuse_at ShapeSpoiled (first_spoiling n t.now) }
 {
