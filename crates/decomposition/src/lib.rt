@@ -24,7 +24,7 @@ pub fn tolerance_fits(x: f64) -> bool
 pub fn budget_fits(b: u64) -> bool
     ensures { result ≡ budget_fits b }
 {
-    b >= 1 && b <= 1000000
+    (1..=1_000_000).contains(&b)
 }
 
 // The arguments, in the order of document 01's table; tn, qn and wn are the lengths of what is lent.

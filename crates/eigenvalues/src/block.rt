@@ -75,43 +75,46 @@ pub(crate) fn is_not_complex(t: &[f64], n: usize, k: usize) -> bool
     is_paired(t, n, k) && !(pass::discriminant(block_at(t, n, k)) <= 0.0)
 }
 
-// The eigenvalue of a block's first row: (half, 0) + (0, root).
-fn upper_of(here: BlockAnswer) -> Parts
-    ensures { result ≡ upper here }
-{
-    match here {
-        BlockAnswer::One(x) => Parts { re: x, im: 0.0 },
-        BlockAnswer::Pair(p) => Parts {
-            re: p.re + 0.0,
-            im: 0.0 + p.im,
-        },
+impl BlockAnswer {
+    // The eigenvalue of a block's first row: (half, 0) + (0, root).
+    fn first_row(self) -> Parts
+        ensures { result ≡ upper self }
+    {
+        match self {
+            BlockAnswer::One(x) => Parts { re: x, im: 0.0 },
+            BlockAnswer::Pair(p) => Parts {
+                re: p.re + 0.0,
+                im: 0.0 + p.im,
+            },
+        }
+    }
+
+    // The eigenvalue of a row that answers so, by what the row before has answered: that one may begin a pair.
+    pub(crate) fn eigenvalue(self, before: BlockAnswer) -> Parts
+        ensures { result ≡ follows before self }
+    {
+        match before {
+            BlockAnswer::One(_) => self.first_row(),
+            BlockAnswer::Pair(p) => p.second_row(),
+        }
     }
 }
 
-// And of its second: (half, 0) - (0, root).
-fn lower_of(p: Parts) -> Parts
-    ensures { result ≡ lower p }
-{
-    Parts {
-        re: p.re - 0.0,
-        im: 0.0 - p.im,
+impl Parts {
+    // The eigenvalue of a pair's second row: (half, 0) - (0, root).
+    fn second_row(self) -> Parts
+        ensures { result ≡ lower self }
+    {
+        Parts {
+            re: self.re - 0.0,
+            im: 0.0 - self.im,
+        }
     }
-}
 
-// The eigenvalue of a row, by what the row before has answered and what its own does: the row before may
-// begin a pair.
-pub(crate) fn eigenvalue_of(before: BlockAnswer, here: BlockAnswer) -> Parts
-    ensures { result ≡ follows before here }
-{
-    match before {
-        BlockAnswer::One(_) => upper_of(here),
-        BlockAnswer::Pair(p) => lower_of(p),
+    // Whether both are finite.
+    pub(crate) fn is_finite(self) -> bool
+        ensures { result ≡ (is_finite self.re && is_finite self.im) }
+    {
+        scalar::is_finite(self.re) && scalar::is_finite(self.im)
     }
-}
-
-// Whether both parts are finite.
-pub(crate) fn is_finite(e: Parts) -> bool
-    ensures { result ≡ (is_finite e.re && is_finite e.im) }
-{
-    scalar::is_finite(e.re) && scalar::is_finite(e.im)
 }

@@ -1,5 +1,5 @@
 // The readers of a given T, a matrix of order n that lies column by column in one slice.
-#![tactic(auto, using(refusal::proofs::ChecksInTurn::in_turn, crate::proofs::ReaderChecks::next_back, crate::proofs::Real::real_held), unfolding(crate::specs::Readers::readable, crate::specs::Readers::finite_readable, crate::specs::Readers::shape_check, crate::specs::Readers::real_checks, crate::specs::Readers::real_lengths, crate::specs::Readers::real_read, crate::specs::Readers::real_finite_of, crate::specs::Readers::diagonal_if_real, crate::specs::Readers::complex_checks, crate::specs::Readers::complex_lengths, crate::specs::Readers::complex_read, crate::specs::Readers::complex_finite_of, refusal::specs::Checks::given_checks, crate::specs::Readers::pair_check, crate::specs::Readers::left_by, crate::specs::Readers::block_checks, refusal::specs::Refusal::refuse, refusal::specs::Refusal::refuse_at, refusal::specs::Refusal::if_passed))]
+#![tactic(auto, using(refusal::proofs::ChecksInTurn::in_turn, refusal::proofs::ChecksInTurn::next_back, crate::proofs::Real::real_held), unfolding(crate::specs::Readers::readable, crate::specs::Readers::finite_readable, crate::specs::Readers::shape_check, crate::specs::Readers::real_checks, crate::specs::Readers::real_lengths, crate::specs::Readers::real_read, crate::specs::Readers::real_finite_of, crate::specs::Readers::diagonal_if_real, crate::specs::Readers::complex_checks, crate::specs::Readers::complex_lengths, crate::specs::Readers::complex_read, crate::specs::Readers::complex_finite_of, refusal::specs::Checks::given_checks, crate::specs::Readers::pair_check, crate::specs::Readers::left_by, crate::specs::Readers::block_checks, refusal::specs::Refusal::refuse, refusal::specs::Refusal::refuse_at, refusal::specs::Refusal::if_passed))]
 
 ghost use Rattle.std.specs.Prelude.{◌≡◌, length};
 ghost use Rattle.loops.specs.Table.{table};
@@ -15,7 +15,7 @@ ghost use Rattle.eigenvalues.specs.Readers.{not_finite_at, block_checks, complex
 ghost use Rattle.eigenvalues.specs.Readers.{complex_finite_of};
 ghost use Rattle.eigenvalues.specs.Real.{RealAnswer};
 
-use crate::block::{BlockAnswer, answer_at, eigenvalue_of, is_finite, is_not_complex, is_paired};
+use crate::block::{BlockAnswer, answer_at, is_not_complex, is_paired};
 use refusal::{Place, Refusal};
 
 // Whether some block of two stands.
@@ -31,6 +31,7 @@ fn do_eigenvalues(t: &[f64], n: usize, values: &mut [f64])
     requires { Square n (length t.now) × (length values.old ≡ n) }
     ensures { values.new ≡ diagonal n t.now }
 {
+    // By index: of what an adapter of `iter_mut` writes a proof is told nothing.
     for k in 0..n {
         values[k] = matrix::entry(t, n, k, k);
     }
@@ -99,7 +100,7 @@ fn first_value_not_finite(t: &[f64], n: usize) -> Option<Place>
     let mut before = BlockAnswer::One(0.0);
     for k in 0..n {
         let here = answer_at(t, n, k);
-        if !is_finite(eigenvalue_of(before, here)) {
+        if !here.eigenvalue(before).is_finite() {
             return Some(Place { row: k, col: k });
         }
         before = here;
@@ -125,9 +126,10 @@ fn do_complex_eigenvalues(t: &[f64], n: usize, re: &mut [f64], im: &mut [f64])
     ensures im_after { im.new ≡ table n (λ k. (eigenvalue_at n t.now k).im) }
 {
     let mut before = BlockAnswer::One(0.0);
+    // By index: of what an adapter of `iter_mut` writes a proof is told nothing.
     for k in 0..n {
         let here = answer_at(t, n, k);
-        let e = eigenvalue_of(before, here);
+        let e = here.eigenvalue(before);
         re[k] = e.re;
         im[k] = e.im;
         before = here;
