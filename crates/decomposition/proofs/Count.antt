@@ -130,7 +130,7 @@ module _ (lengths : Checked) (asked : Setting) (m : List Float) (p : Pair) (w : 
         go (result_checks asked ran.pair) (said e) (result_numbers asked _) (ap passes_of e)
       where
         go : (c : Checked) → verdict asked ran.answer ran.pair ≡ c → Results c → passes_of ran.answer ≡ count → Own answer count
-        go passed k numbers passes = accepted (accepted_run lengths asked budget m p w h k ∙ ap Ok passes)
+        go (Ok u) k numbers passes = accepted (accepted_run lengths asked budget m p w h k ∙ ap Ok passes)
         go (Err r) k numbers passes =
             let e = ap (λ x. x.number) (declined_told answer (refused_run lengths asked budget m p w h k)) in
             refused (omega arith) (omega arith)

@@ -43,12 +43,12 @@ module _ (asked : Setting) (unwanted : asked.wanted ≡ false) where
 
   settled_answer : (passes : ℕ) (c : Checked) (p r : Pair) → (settled asked passes c p).answer ≡ (settled asked passes c r).answer
   unfolding settled
-  settled_answer passes passed p r = refl
+  settled_answer passes (Ok u) p r = refl
   settled_answer passes (Err x) p r = refl
 
   settled_t : (passes : ℕ) (c : Checked) (p r : Pair) → p.t ≡ r.t → (settled asked passes c p).pair.t ≡ (settled asked passes c r).pair.t
   unfolding settled nan_filled
-  settled_t passes passed p r e = e
+  settled_t passes (Ok u) p r e = e
   settled_t passes (Err x) p r e = ap (filled nan) e
 
 module _ (asked : Setting) (x y : Left) (w w' : List Float) (unfelt : Unfelt asked x y) (room : length w ≡ length w') where
@@ -116,7 +116,7 @@ module _ (lengths : Checked) (asked : Setting) (budget : ℕ) (m : List Float) (
   entry_answer = go checks refl
     where
       go : (c : Checked) → checks ≡ c → (entry_of lengths asked budget m p w).answer ≡ (entry_of lengths asked budget m p' w').answer
-      go passed h = (entry_lent h).answer
+      go (Ok u) h = (entry_lent h).answer
       go (Err r) h = ap (λ o. o.answer) (untouched lengths asked budget m p w h) ∙ sym (ap (λ o. o.answer) (untouched lengths asked budget m p' w' h))
 
 -- ---- the decomposition

@@ -90,7 +90,7 @@ module _ (lengths : Checked) (asked : Setting) (budget : ℕ) (m : List Float) (
   accepted_passed e = go checks refl
     where
       go : (k : Checked) → checks ≡ k → k ≡ passed
-      go passed h = refl
+      go (Ok u) h = refl
       go (Err r) h = let other = ap (λ o. o.answer) (untouched h) in cc
 
   -- accepted: T and Q are the run's, and all else has passed too; and the other way round
@@ -124,7 +124,7 @@ module _ (lengths : Checked) (asked : Setting) (budget : ℕ) (m : List Float) (
     lent_long = go checks refl
       where
         go : (k : Checked) → checks ≡ k → AsLong p whole.pair
-        go passed h =
+        go (Ok u) h =
             let begins : AsLong p (pair m p.q) = record { t = (sizes h).alike; q = refl } in
             rw (run_judged h) (then_long begins (then_long (ran_length asked budget (pair m p.q) w) (judged_length asked ran w)))
         go (Err r) h = rw (untouched h) (same_long p)

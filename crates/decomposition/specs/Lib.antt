@@ -1,5 +1,6 @@
 -- The decomposition with its refusals. `Checks`: what is looked at before the run and after it; `Decomposition`: the
--- whole answer; `Known`: worked cases.
+-- whole answer; `Inner`: what the inner functions promise; `Known`: worked cases.
 pub mod Checks
 pub mod Decomposition
+pub mod Inner
 pub mod Known

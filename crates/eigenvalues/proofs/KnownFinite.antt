@@ -13,7 +13,7 @@ use Rattle.eigenvalues.specs.Readers.{complex_checks, complex_read, complex_fini
 -- the last of three checks passes, and another stands behind them
 next_without : (a b c d : Checked) → c ≡ passed → (a next b next d) ≡ ((a next b next c) next d)
 unfolding ◌next◌
-next_without (Ok u) (Ok u) c d h = rw h
+next_without (Ok u) (Ok v) c d h = rw h
 next_without (Ok u) (Err r) c d h = refl
 next_without (Err r) b c d h = refl
 

@@ -106,11 +106,11 @@ module _ (n : ℕ) (t values : List Float) where
       let f = readable_fit n t (length_check WrongLength (length values) n) h in
       record {
         some = g.some;
-        order = f.order;
-        square = f.size;
+        order = f.square.order;
+        square = f.square.size;
         room = length_passed _ (length values) n f.room;
-        finite = nowhere_finite n t f.order f.size g.entries;
-        shape = nowhere_shape n t f.order f.size (refuse_at_passed _ _ a.1);
+        finite = nowhere_finite n t f.square.order f.square.size g.entries;
+        shape = nowhere_shape n t f.square.order f.square.size (refuse_at_passed _ _ a.1);
       }
 
   -- on such a T it answers one of two: passed, or 'complex'
@@ -155,8 +155,8 @@ module _ (n : ℕ) (t values : List Float) where
   }
 
   -- what `eigenvalues` promises
-  pub real_held : (r : Checked) (after : List Float) → read r after ≡ real_read n t values → (read r after ≡ real_read n t values) × RealAnswer n t values r after
-  real_held r after e = (e, subst (λ (x : Read). RealAnswer n t values x.answer x.values) (sym e) real_answer)
+  pub real_held : (r : Checked) (after : List Float) → read r after ≡ real_read n t values → RealAnswer n t values r after
+  real_held r after e = subst (λ (x : Read). RealAnswer n t values x.answer x.values) (sym e) real_answer
 
   -- ---- where entries and shape are not looked at
 

@@ -1,19 +1,22 @@
 // A block on T's diagonal, and what it answers. A matrix of order n lies column by column in one slice.
-ghost use Rattle.std.specs.Prelude.{◌≡◌, ◌&&◌, length, ◌+◌, ◌*◌, ◌<◌, ◌≤◌};
+#![tactic(auto, using(matrix::proofs::Kernels::entry_of_there, crate::proofs::BlockAnswers::paired_inside), unfolding(crate::specs::Blocks::paired, crate::specs::Blocks::pair_of, crate::specs::Blocks::answer_at, crate::specs::Blocks::not_complex, crate::specs::Blocks::upper, crate::specs::Blocks::lower, crate::specs::Blocks::follows,),)]
+
+ghost use Rattle.std.specs.Prelude.{◌≡◌, ◌&&◌, length, ◌+◌, ◌<◌};
 ghost use Rattle.scalar.specs.Class.{is_finite};
 ghost use Rattle.pass.specs.Block.{block_at};
+ghost use Rattle.eigenvalues.specs.Inner.{Square};
 ghost use Rattle.eigenvalues.specs.Blocks.{paired, pair_of, answer_at, not_complex, upper, lower, follows};
 
 use pass::Block;
 
-#[derive(Clone, Copy)]
+#[derive(Clone, Copy, Debug, PartialEq)]
 pub struct Parts {
     pub re: f64,
     pub im: f64,
 }
 
 // One real number; or a pair, by half the trace and the root of the discriminant without its sign.
-#[derive(Clone, Copy)]
+#[derive(Clone, Copy, Debug, PartialEq)]
 pub enum BlockAnswer {
     One(f64),
     Pair(Parts),
@@ -21,19 +24,15 @@ pub enum BlockAnswer {
 
 // Whether a block of two stands at k: the entry just below the diagonal is there and is not 0.
 pub(crate) fn is_paired(t: &[f64], n: usize, k: usize) -> bool
-    requires { (n ≤ 64) × (length t.now ≡ n * n) × (k < n) }
+    requires { Square n (length t.now) × (k < n) }
     ensures { result ≡ paired n t.now k }
 {
-    if k + 1 == n {
-        return false;
-    }
-    let below = matrix::entry(t, n, k + 1, k);
-    !scalar::is_zero(below)
+    k + 1 < n && !scalar::is_zero(matrix::entry(t, n, k + 1, k))
 }
 
 // That block.
 pub(crate) fn block_at(t: &[f64], n: usize, k: usize) -> Block
-    requires { (n ≤ 64) × (length t.now ≡ n * n) × (k + 1 < n) }
+    requires { Square n (length t.now) × (k + 1 < n) }
     ensures { result ≡ block_at n k t.now }
 {
     Block {
@@ -58,24 +57,22 @@ fn pair_of(m: Block) -> Parts
 
 // What the block with its upper left entry at k answers.
 pub(crate) fn answer_at(t: &[f64], n: usize, k: usize) -> BlockAnswer
-    requires { (n ≤ 64) × (length t.now ≡ n * n) × (k < n) }
+    requires { Square n (length t.now) × (k < n) }
     ensures { result ≡ answer_at n t.now k }
 {
     if is_paired(t, n, k) {
-        return BlockAnswer::Pair(pair_of(block_at(t, n, k)));
+        BlockAnswer::Pair(pair_of(block_at(t, n, k)))
+    } else {
+        BlockAnswer::One(matrix::entry(t, n, k, k))
     }
-    BlockAnswer::One(matrix::entry(t, n, k, k))
 }
 
 // Whether a block of two stands at k whose discriminant is above 0 or NaN.
 pub(crate) fn is_not_complex(t: &[f64], n: usize, k: usize) -> bool
-    requires { (n ≤ 64) × (length t.now ≡ n * n) × (k < n) }
+    requires { Square n (length t.now) × (k < n) }
     ensures { result ≡ not_complex n t.now k }
 {
-    if !is_paired(t, n, k) {
-        return false;
-    }
-    !(pass::discriminant(block_at(t, n, k)) <= 0.0)
+    is_paired(t, n, k) && !(pass::discriminant(block_at(t, n, k)) <= 0.0)
 }
 
 // The eigenvalue of a block's first row: (half, 0) + (0, root).
@@ -116,8 +113,5 @@ pub(crate) fn eigenvalue_of(before: BlockAnswer, here: BlockAnswer) -> Parts
 pub(crate) fn is_finite(e: Parts) -> bool
     ensures { result ≡ (is_finite e.re && is_finite e.im) }
 {
-    if !scalar::is_finite(e.re) {
-        return false;
-    }
-    scalar::is_finite(e.im)
+    scalar::is_finite(e.re) && scalar::is_finite(e.im)
 }

@@ -160,8 +160,8 @@ module _ (n : ℕ) (m values w : List Float) where
           → (checks n m values w ≡ passed) × ((decomposed_told decomposed.answer).number ≡ k)
       go (Err s) h b two =
           absurd (out (told_elsewhere _ (checks_elsewhere _ n m (lengths_elsewhere n _ _ _)) (number (plain_kept h ∙ sym h))))
-      go passed h true two = absurd (out (told_elsewhere _ (two_elsewhere _) (number (by_order h two))))
-      go passed h false two = (h, declined_there decomposed.answer n _ out (number (plain_is h two)))
+      go (Ok u) h true two = absurd (out (told_elsewhere _ (two_elsewhere _) (number (by_order h two))))
+      go (Ok u) h false two = (h, declined_there decomposed.answer n _ out (number (plain_is h two)))
 
   -- 7: only where the definition's count is 10,000 or more
   pub plain_reached : (checked_told answer).number ≡ 7 → plain_budget ≤ count

@@ -1,5 +1,6 @@
 -- The plain entry, told of the pieces that the code has in hand. Assumes nothing.
-use Rattle.std.specs.Prelude.{Err, Ok, Some}
+use Rattle.std.specs.Prelude.{Err, None, Ok, Option, Some}
+use Rattle.std.specs.Option.{ok_or}
 use Rattle.refusal.specs.Refusal.{Checked, passed}
 use Prim.Native.Nat.{ℕ}
 use mathlib.Core.Bool.{Bool, true, false, not}
@@ -8,7 +9,7 @@ use mathlib.Core.List.{List, [], ◌∷◌}
 use native.Mathlib.Omega.{arith}
 use borrow.Author.Tests.{eq-eqb, ne_eqb}
 use mathlib.Core.Logic.{◌≢◌}
-use lib.ListN.{length, set}
+use lib.ListN.{length}
 use lib.Ieee.{Float}
 use Rattle.loops.specs.Constants.{zero}
 use Rattle.loops.specs.Rounded.{◌!◌}
@@ -19,7 +20,7 @@ use Rattle.pass.specs.Block.{block_at, eigvals_of}
 use Rattle.pass.specs.declared.block.Values.{Values}
 use Rattle.schur.specs.Run.{Left, run_fits, ran_of, run_of, work_after}
 use Rattle.refusal.specs.declared.refusal.Refusal.{Refusal}
-use Rattle.refusal.specs.declared.refusal.Refusal.TheVariants.{ResultNotFinite}
+use Rattle.refusal.specs.declared.refusal.Refusal.TheVariants.{ResultNotFinite, ComplexEigenvalues}
 use Rattle.refusal.specs.Refusal.{at, refuse_at, ◌next◌, if_passed}
 use Rattle.refusal.specs.Checks.{order_checks, given_checks}
 use Rattle.refusal.proofs.ChecksInTurn.{next_before}
@@ -76,11 +77,12 @@ pub two_both : (v : Values) (values out : List Float) → is_finite v.first ≡ 
 unfolding plain_two left_by refuse_at if_passed
 two_both v values out h k e = rw (← place_none (sought_more (past_first v h) (omega arith) (ap not k)) (omega arith), e)
 
-pub two_put : (t : List Float) (x y : Float) → length t ≡ 2 → set (set t 0 x) 1 y ≡ x ∷ y ∷ []
-two_put [] x y h = absurd (omega arith)
-two_put (_ ∷ []) x y h = absurd (omega arith)
-two_put (_ ∷ _ ∷ []) x y h = refl
-two_put (_ ∷ _ ∷ _ ∷ t) x y h = absurd (omega arith)
+-- there are none
+pub two_none : {a : Checked} {r : Refusal} (v : Option Values) (values : List Float) → ok_or v ComplexEigenvalues ≡ Err r → a ≡ Err r
+    → read a values ≡ left_by (plain_two v) values
+unfolding plain_two left_by if_passed
+two_none {r = r} None values h e = let same : r ≡ ComplexEigenvalues = cc in ap (λ c. read c values) (e ∙ ap Err same)
+two_none (Some v) values h e = cc
 
 -- ---- every other order
 
@@ -101,9 +103,10 @@ ran_by {l} {s} {w'} n m w fits run end work none =
     let whole : outcome s.answer s.pair w' ≡ plain_ran n m w = rw cleared (ap (λ s. outcome s.answer s.pair (filled zero w)) said) in
     ap (λ q. outcome s.answer (pair s.pair.t q) w') (sym (none_left s.pair.q none)) ∙ whole
 
-pub run_refused : (n : ℕ) (o : Outcome) (r : Refusal) (values : List Float) → o.answer ≡ Err r → read (Err r) values ≡ left_by (plain_run n o) values
+pub run_refused : {a : Checked} {r : Refusal} (n : ℕ) (o : Outcome) (values : List Float) → o.answer ≡ Err r → a ≡ Err r
+    → read a values ≡ left_by (plain_run n o) values
 unfolding left_by plain_run complex_checked if_passed
-run_refused n o r values h = rw h
+run_refused n o values h e = rw (h, e)
 
 pub run_read : {passes : ℕ} {x : Read} (n : ℕ) (o : Outcome) (t values : List Float) → o.answer ≡ Ok passes → t ≡ o.pair.t
     → x ≡ left_by (read (pair_check n t) (diagonal n t)) values → x ≡ left_by (plain_run n o) values
@@ -128,9 +131,9 @@ begun_run x n t values w h e l k = rw (ne_eqb n 2 h) (told_by x _ _ _ e l k)
 
 -- ---- all of it: c is what the checks have come to
 
-pub begun_kept : {r : Refusal} {c : Checked} (n : ℕ) (t values w : List Float) → c ≡ Err r → in_place c t values w ≡ plain_begun c n t values w
+pub begun_kept : {r : Refusal} {a c : Checked} (n : ℕ) (t values w : List Float) → c ≡ Err r → a ≡ Err r → in_place a t values w ≡ plain_begun c n t values w
 unfolding plain_begun
-begun_kept n t values w h = rw h
+begun_kept n t values w h e = rw (h, e)
 
 pub begun_by : {c d : Checked} (n : ℕ) (t values w : List Float) → c ≡ d → plain_begun c n t values w ≡ plain_begun d n t values w
 begun_by n t values w e = ap (λ c. plain_begun c n t values w) e

@@ -7,11 +7,6 @@ use Rattle.pass.specs.Block.{block_at, eigvals_of}
 use Rattle.eigenvalues.specs.Readers.{read, left_by}
 use Rattle.plain.specs.Plain.{Sized, plain_two, plain_ran, plain_run}
 
--- the order and the lengths have passed, and the order is at most k
-pub record SizedTo (k n mn vn wn : ℕ) : Type 0 where
-  pub sized : Sized n mn vn wn
-  pub most : n ≤ k
-
 -- order 2: what was answered with the list that is left, and the workspace
 pub record TwoDone (m values w : List Float) (r : Checked) (values' w' : List Float) : Type 0 where
   pub told : read r values' ≡ left_by (plain_two (eigvals_of (block_at 2 0 m))) values

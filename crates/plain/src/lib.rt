@@ -1,6 +1,6 @@
 // The plain entry: the eigenvalues of a matrix, if all are real. A matrix of order n lies column by column in
 // one slice.
-#![tactic(auto)]
+#![tactic(auto, using(refusal::proofs::ChecksInTurn::in_turn, refusal::proofs::ChecksInTurn::next_back), unfolding(crate::specs::Plain::plain_lengths, refusal::specs::Checks::given_checks))]
 
 ghost use Rattle.std.specs.Prelude.{◌≡◌, true, [], length, ◌*◌, ◌≤◌};
 ghost use Rattle.pass.specs.Block.{block_at, eigvals_of};
@@ -12,27 +12,19 @@ ghost use Rattle.decomposition.specs.Decomposition.{outcome};
 ghost use Rattle.eigenvalues.specs.Readers.{read, left_by};
 ghost use Rattle.plain.specs.Plain.{plain_lengths, Sized, plain_two, plain_ran, in_place, plain_begun};
 ghost use Rattle.plain.specs.Plain.{plain_placed_of, plain_finite_of, plain, kept, plain_of};
-ghost use Rattle.plain.specs.Inner.{SizedTo, TwoDone, RunDone};
+ghost use Rattle.plain.specs.Inner.{TwoDone, RunDone};
 
 use pass::{Block, Setting, Values};
 use refusal::{Place, Refusal};
 
-// The matrix, the list of eigenvalues, the workspace.
-fn check_lengths(n: usize, mn: usize, vn: usize, wn: usize) -> Result<(), Refusal>
-    requires { n ≤ 64 }
-    ensures { result ≡ plain_lengths n mn vn wn }
-{
-    refusal::check_length(mn, n * n, Refusal::WrongLength)?;
-    refusal::check_length(vn, n, Refusal::WrongLength)?;
-    refusal::check_length(wn, 2 * n, Refusal::WrongLength)
-}
-
-// The order before them.
+// The order, then the lengths: of the matrix, of the list of eigenvalues, of the workspace.
 fn check_sizes(n: usize, mn: usize, vn: usize, wn: usize) -> Result<(), Refusal>
     ensures { result ≡ (order_checks n next plain_lengths n mn vn wn) }
 {
     refusal::check_order(n)?;
-    check_lengths(n, mn, vn, wn)
+    refusal::check_length(mn, n * n, Refusal::WrongLength)?;
+    refusal::check_length(vn, n, Refusal::WrongLength)?;
+    refusal::check_length(wn, 2 * n, Refusal::WrongLength)
 }
 
 // And the entries behind them: all the arguments, in the order of document 01's table.
@@ -44,6 +36,7 @@ fn check_arguments(m: &[f64], n: usize, vn: usize, wn: usize) -> Result<(), Refu
 }
 
 // Two eigenvalues, if both are finite.
+#[tactic(auto, using(crate::proofs::Plainly::two_first, crate::proofs::Plainly::two_second, crate::proofs::Plainly::two_both))]
 fn two_values(v: Values, values: &mut [f64]) -> Result<(), Refusal>
     requires { length values.old ≡ 2 }
     ensures { read result values.new ≡ left_by (plain_two (Some v)) values.old }
@@ -54,8 +47,7 @@ fn two_values(v: Values, values: &mut [f64]) -> Result<(), Refusal>
     if !scalar::is_finite(v.second) {
         return Err(Refusal::ResultNotFinite(Place { row: 1, col: 1 }));
     }
-    values[0] = v.first;
-    values[1] = v.second;
+    values.copy_from_slice(&[v.first, v.second]);
     Ok(())
 }
 
@@ -72,26 +64,16 @@ fn block_of(m: &[f64]) -> Block
     }
 }
 
-// The eigenvalues of a matrix of order 2: the larger one first.
-fn two_of(m: &[f64], values: &mut [f64]) -> Result<(), Refusal>
-    requires { (length m.now ≡ 4) × (length values.old ≡ 2) }
-    ensures { read result values.new
-        ≡ left_by (plain_two (eigvals_of (block_at 2 0 m.now))) values.old }
-{
-    let Some(v) = pass::compute_2x2_eigvals(block_of(m)) else {
-        return Err(Refusal::ComplexEigenvalues);
-    };
-    two_values(v, values)
-}
-
-// Order 2: no run, so that the matrix is only read; the workspace is cleared as a run clears it.
+// Order 2: no run, so that the matrix is only read, and the larger eigenvalue first; the workspace is cleared as a
+// run clears it.
 fn plain_two(m: &[f64], values: &mut [f64], work: &mut [f64]) -> Result<(), Refusal>
     requires { (length m.now ≡ 4) × (length values.old ≡ 2) }
     ensures { TwoDone m.now values.old work.old result values.new
         work.new }
 {
     matrix::fill(work, 0.0);
-    two_of(m, values)
+    let v = pass::compute_2x2_eigvals(block_of(m)).ok_or(Refusal::ComplexEigenvalues)?;
+    two_values(v, values)
 }
 
 // The decomposition without Q, in place.
@@ -103,7 +85,7 @@ fn decompose(t: &mut [f64], n: usize, work: &mut [f64]) -> Result<u64, Refusal>
     let asked = Setting {
         order: n,
         wanted: false,
-        tolerance: 2.220446049250313e-16,
+        tolerance: f64::EPSILON,
     };
     let mut q = [0.0f64; 0];
     let ran = schur::do_decompose(t, &mut q, asked, 10000, work);
@@ -116,10 +98,8 @@ fn plain_run(t: &mut [f64], n: usize, values: &mut [f64], work: &mut [f64]) -> R
     ensures { RunDone n t.old values.old work.old result t.new
         values.new work.new }
 {
-    match decompose(t, n, work) {
-        Err(r) => Err(r),
-        Ok(_) => eigenvalues::diagonal_if_real(t, n, values),
-    }
+    decompose(t, n, work)?;
+    eigenvalues::diagonal_if_real(t, n, values)
 }
 
 // The arguments have passed.
@@ -129,9 +109,10 @@ fn plain_any(t: &mut [f64], n: usize, values: &mut [f64], work: &mut [f64]) -> R
         ≡ plain_begun passed n t.old values.old work.old }
 {
     if n == 2 {
-        return plain_two(t, values, work);
+        plain_two(t, values, work)
+    } else {
+        plain_run(t, n, values, work)
     }
-    plain_run(t, n, values, work)
 }
 
 // The eigenvalues of the matrix in t, if all are real; t becomes T, unless the order is 2, and the workspace has
@@ -163,73 +144,47 @@ pub fn plain_eigenvalues_of_finite(
     plain_any(t, n, values, work)
 }
 
-// A matrix that is kept: t becomes a copy of it.
-fn plain_copied(m: &[f64], n: usize, values: &mut [f64], t: &mut [f64], work: &mut [f64]) -> Result<(), Refusal>
-    requires { Sized n (length m.now) (length values.old) (length work.old) × (length t.old ≡ n * n) }
+// A matrix that is kept: a copy of it is worked on, in room for ROOM numbers.
+fn plain_in<const ROOM: usize>(
+    m: &[f64],
+    n: usize,
+    values: &mut [f64],
+    work: &mut [f64],
+) -> Result<(), Refusal>
+    requires { Sized n (length m.now) (length values.old) (length work.old) × (n * n ≤ ROOM) × (ROOM ≤ 4096) }
     ensures { plain result values.new work.new
         ≡ kept (plain_begun passed n m.now values.old work.old) }
 {
+    let mut room = [0.0f64; ROOM];
+    let t = &mut room[..n * n];
     matrix::copy_from(t, m);
     plain_any(t, n, values, work)
 }
 
-// The room is cut to size.
-fn plain_in(m: &[f64], n: usize, values: &mut [f64], room: &mut [f64], work: &mut [f64]) -> Result<(), Refusal>
-    requires { Sized n (length m.now) (length values.old) (length work.old) × (n * n ≤ length room.old) }
-    ensures { plain result values.new work.new
-        ≡ kept (plain_begun passed n m.now values.old work.old) }
-{
-    plain_copied(m, n, values, &mut room[..n * n], work)
-}
-
-// Small orders do not pay for clearing a large room.
-fn plain_8(m: &[f64], n: usize, values: &mut [f64], work: &mut [f64]) -> Result<(), Refusal>
-    requires { SizedTo 8 n (length m.now) (length values.old) (length work.old) }
-    ensures { plain result values.new work.new
-        ≡ kept (plain_begun passed n m.now values.old work.old) }
-{
-    let mut room = [0.0f64; 64];
-    plain_in(m, n, values, &mut room, work)
-}
-
-fn plain_32(m: &[f64], n: usize, values: &mut [f64], work: &mut [f64]) -> Result<(), Refusal>
-    requires { SizedTo 32 n (length m.now) (length values.old) (length work.old) }
-    ensures { plain result values.new work.new
-        ≡ kept (plain_begun passed n m.now values.old work.old) }
-{
-    let mut room = [0.0f64; 1024];
-    plain_in(m, n, values, &mut room, work)
-}
-
-fn plain_64(m: &[f64], n: usize, values: &mut [f64], work: &mut [f64]) -> Result<(), Refusal>
-    requires { Sized n (length m.now) (length values.old) (length work.old) }
-    ensures { plain result values.new work.new
-        ≡ kept (plain_begun passed n m.now values.old work.old) }
-{
-    let mut room = [0.0f64; 4096];
-    plain_in(m, n, values, &mut room, work)
-}
-
-// Every order; 2 needs no room.
+// Every order: 2 needs no room, and small ones do not pay for clearing a large room.
 fn plain_kept(m: &[f64], n: usize, values: &mut [f64], work: &mut [f64]) -> Result<(), Refusal>
     requires { Sized n (length m.now) (length values.old) (length work.old) }
     ensures { plain result values.new work.new
         ≡ kept (plain_begun passed n m.now values.old work.old) }
 {
     if n == 2 {
-        return plain_two(m, values, work);
+        plain_two(m, values, work)
+    } else if n <= 8 {
+        plain_in::<64>(m, n, values, work)
+    } else if n <= 32 {
+        plain_in::<1024>(m, n, values, work)
+    } else {
+        plain_in::<4096>(m, n, values, work)
     }
-    if n <= 8 {
-        return plain_8(m, n, values, work);
-    }
-    if n <= 32 {
-        return plain_32(m, n, values, work);
-    }
-    plain_64(m, n, values, work)
 }
 
 // The same for a matrix that is kept: a copy of it is worked on in place.
-pub fn plain_eigenvalues(m: &[f64], n: usize, values: &mut [f64], work: &mut [f64]) -> Result<(), Refusal>
+pub fn plain_eigenvalues(
+    m: &[f64],
+    n: usize,
+    values: &mut [f64],
+    work: &mut [f64],
+) -> Result<(), Refusal>
     ensures { plain result values.new work.new
         ≡ plain_of n m.now values.old work.old }
 {

@@ -75,6 +75,10 @@ unfolding ◌next◌
 next_assoc (Ok u) b c = refl
 next_assoc (Err r) b c = refl
 
+-- the same as `grind` finds it in a definition: a check behind those that code has made into one
+pub next_back : (a b c : Checked) → (a next (b next c)) ≡ ((a next b) next c)
+next_back a b c = sym (next_assoc a b c)
+
 pub next_on : (c d : Checked) → c ≡ passed → (c next d) ≡ d
 unfolding ◌next◌
 next_on c d h = rw h

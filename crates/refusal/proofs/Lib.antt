@@ -2,7 +2,7 @@
 -- the shape; `Shape`: what holds of the matrix where none is at fault; `ChecksInTurn`: checks in turn; `PassedChecks`: what each check that several entries
 -- make tells; `Numbers`: that number and place tell the refusal.
 pub mod Searching
-pub mod Tallying
+pub mod Linear
 pub mod Spoiling
 pub mod Shape
 pub mod ChecksInTurn

@@ -1,17 +1,18 @@
 -- A search as a loop makes it: what is left to search is the whole. From one number to the next, as along a row, a column or the diagonal; and column by
 -- column, which finds nothing exactly where the test names no place. Assumes nothing.
-use Rattle.std.specs.Prelude.{None, Some}
+use Rattle.std.specs.Prelude.{None, Some, Option, MatchOption}
 use Prim.Native.Nat.{ℕ, ◌+◌, ◌<◌, ◌≤◌}
 use mathlib.Core.Bool.{Bool, true, false, cond}
 use mathlib.Core.Path.{◌≡◌, refl, sym, ap, ◌∙◌}
 use native.Mathlib.Decide.{dec_lt}
 use native.Mathlib.Omega.{arith}
-use borrow.Author.Tests.{lt-ltb, le-ltb}
+use borrow.Author.Tests.{ltb-true, ltb-false, lt-ltb, le-ltb}
 use lib.Dec.{ltb}
 use Rattle.loops.specs.First.{first_from}
-use Rattle.loops.proofs.First.{first_here, first_on, first_none, first_same, some_none, none_some}
+use Rattle.loops.proofs.First.{first_here, first_on, first_none, first_past, first_same, some_none, none_some}
 use Rattle.refusal.specs.declared.refusal.Place.{Place}
 use Rattle.refusal.specs.Refusal.{at}
+use Rattle.refusal.specs.Inner.{found}
 use Rattle.refusal.specs.Search.{first_row, first_col, first_place}
 
 -- ---- number by number: the test names none from `from` to before k
@@ -33,6 +34,40 @@ sought_here {test} {n} {from} {k} s h = sym (first_here test n k h) ∙ s.left
 
 pub sought_done : {test : ℕ → Bool} {n from k : ℕ} → Sought test n from k → n ≤ k → k ≡ first_from test n from
 sought_done {test} {n} {from} {k} s l = sym (first_none test n k l) ∙ s.left
+
+-- ---- what was found, where none is told apart
+
+pub found_some : {n k i : ℕ} → i ≡ k → k < n → Some i ≡ found n k
+found_some {n} {k} {i} e l = rw (e, lt-ltb k n l)
+
+pub found_none : {n k : ℕ} → n ≤ k → None ≡ found n k
+found_none {n} {k} l = rw (le-ltb k n l)
+
+-- and the other way
+pub some_found : {n k i : ℕ} → Some i ≡ found n k → (i ≡ k) × (i < n)
+some_found {n} {k} {i} h = go (ltb k n) refl h
+  where
+    go : (b : Bool) → ltb k n ≡ b → Some i ≡ cond b (Some k) None → (i ≡ k) × (i < n)
+    go true e h = let same : i ≡ k = cc in (same, omega (arith, ltb-true k n e))
+    go false e h = cc
+
+pub none_found : {n k : ℕ} → None ≡ found n k → n ≤ k
+none_found {n} {k} h = go (ltb k n) refl h
+  where
+    go : (b : Bool) → ltb k n ≡ b → None ≡ cond b (Some k) None → n ≤ k
+    go true e h = cc
+    go false e h = ltb-false k n e
+
+-- what `find` over a..n has found by one test, told by another that says the same there
+pub range_found : {test other : ℕ → Bool} {n a : ℕ} {r : Option ℕ} → a ≤ n
+    → MatchOption r ((k : ℕ) → a ≤ k → k < n → test k ≡ false) (λ i. (a ≤ i) × (i < n) × (test i ≡ true) × ((k : ℕ) → a ≤ k → k < i → test k ≡ false))
+    → ((k : ℕ) → a ≤ k → k < n → other k ≡ test k)
+    → r ≡ found n (first_from other n a)
+range_found {other = other} {n = n} {a = a} {r = None} l h same =
+    found_none (omega (arith, first_past other n a n l (omega arith) (λ k b c. same k b c ∙ h k b c), first_none other n n (omega arith)))
+range_found {other = other} {n = n} {a = a} {r = Some i} l h same =
+    let past = first_past other n a i h.0 (omega arith) (λ k b c. same k b (omega arith) ∙ h.3 k b c) in
+    found_some (sym (past ∙ first_here other n i (same i h.0 h.1 ∙ h.2))) (omega (arith, past, first_here other n i (same i h.0 h.1 ∙ h.2)))
 
 -- ---- column by column
 

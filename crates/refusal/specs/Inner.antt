@@ -1,8 +1,6 @@
--- What a private function promises, here and in `words`: a count of the numbers that are not finite.
-use Rattle.std.specs.Prelude.{ℕ, ◌+◌, ◌≤◌, Bool, true, ◌≡◌}
+-- What a private function promises.
+use Rattle.std.specs.Prelude.{ℕ, Option, Some, None, cond, ltb}
 
--- `bad` has become r by one number more: it is 0 only where it was 0 before and this number is finite
-pub record Tallied (bad : ℕ) (finite : Bool) (r : ℕ) : Type 0 where
-  pub most : r ≤ bad + 1
-  pub before : r ≡ 0 → bad ≡ 0
-  pub this : r ≡ 0 → finite ≡ true
+-- what a search below n has found, which comes to n where it finds none
+abbrev pub found : (n k : ℕ) → Option ℕ
+found n k = cond (ltb k n) (Some k) None

@@ -10,5 +10,5 @@ pub use checks::{
     check_entries, check_given, check_length, check_lent, check_matrices, check_order,
     check_result, check_shape, check_sizes,
 };
-pub use refusal::{Place, Refusal, Told, tell};
-pub use search::{first_not_finite, first_spoiling};
+pub use refusal::{Place, Refusal, Told};
+pub use search::{Finite, first_entry_not_finite, first_not_finite, first_spoiling};

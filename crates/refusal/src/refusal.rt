@@ -35,40 +35,41 @@ pub struct Told {
     pub col: usize,
 }
 
-fn with_place(number: u64, p: Place) -> Told
-    ensures { result ≡ with_place number p }
-{
-    Told {
-        number,
-        row: p.row,
-        col: p.col,
+impl Told {
+    fn at(number: u64, place: Place) -> Told
+        ensures { result ≡ with_place number place }
+    {
+        let Place { row, col } = place;
+        Told { number, row, col }
+    }
+
+    fn nowhere(number: u64) -> Told
+        ensures { result ≡ without_place number }
+    {
+        Told::at(number, Place { row: 0, col: 0 })
     }
 }
 
-fn without_place(number: u64) -> Told
-    ensures { result ≡ without_place number }
-{
-    with_place(number, Place { row: 0, col: 0 })
-}
-
 #[tactic(auto, unfolding(crate::specs::Refusal::told_of))]
-pub fn tell(r: Refusal) -> Told
-    ensures { result ≡ told_of r }
-{
-    match r {
-        Refusal::OrderZero => without_place(1),
-        Refusal::OrderTooLarge => without_place(2),
-        Refusal::WrongLength => without_place(3),
-        Refusal::ToleranceOutside => without_place(4),
-        Refusal::BudgetOutside => without_place(5),
-        Refusal::EntryNotFinite(p) => with_place(6, p),
-        Refusal::BudgetReached => without_place(7),
-        Refusal::ResultNotFinite(p) => with_place(8, p),
-        Refusal::ShapeSpoiled(p) => with_place(9, p),
-        Refusal::ComplexEigenvalues => without_place(10),
-        Refusal::BlockNotComplex(p) => with_place(11, p),
-        Refusal::InputCutShort => without_place(12),
-        Refusal::UnknownKind => without_place(13),
-        Refusal::InputLengthWrong => without_place(14),
+impl From<Refusal> for Told {
+    ghost from_gives = { λ refusal told. told ≡ told_of refusal };
+
+    fn from(refusal: Refusal) -> Told {
+        match refusal {
+            Refusal::OrderZero => Told::nowhere(1),
+            Refusal::OrderTooLarge => Told::nowhere(2),
+            Refusal::WrongLength => Told::nowhere(3),
+            Refusal::ToleranceOutside => Told::nowhere(4),
+            Refusal::BudgetOutside => Told::nowhere(5),
+            Refusal::EntryNotFinite(place) => Told::at(6, place),
+            Refusal::BudgetReached => Told::nowhere(7),
+            Refusal::ResultNotFinite(place) => Told::at(8, place),
+            Refusal::ShapeSpoiled(place) => Told::at(9, place),
+            Refusal::ComplexEigenvalues => Told::nowhere(10),
+            Refusal::BlockNotComplex(place) => Told::at(11, place),
+            Refusal::InputCutShort => Told::nowhere(12),
+            Refusal::UnknownKind => Told::nowhere(13),
+            Refusal::InputLengthWrong => Told::nowhere(14),
+        }
     }
 }

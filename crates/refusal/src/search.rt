@@ -1,79 +1,82 @@
 // The first entry of a matrix that is at fault, column by column. A matrix of order n, at most 64, lies
 // column by column in a slice; in one of another length nothing is found.
-ghost use Rattle.std.specs.Prelude.{◌≡◌, true, length, ℕ, ◌+◌, ◌*◌, ◌<◌, ◌≤◌};
+ghost use Rattle.std.specs.Prelude.{◌≡◌, ℕ, ◌+◌, ◌*◌, ◌<◌, ◌≤◌, length, map, not, Float};
+ghost use Rattle.std.specs.List.{list_all, position};
 ghost use Rattle.loops.specs.First.{first_from};
-ghost use Rattle.loops.specs.Rounded.{◌!◌};
 ghost use Rattle.scalar.specs.Class.{is_finite};
-ghost use Rattle.refusal.specs.Search.{first_row, first_place, not_finite, spoils, first_not_finite, first_spoiling};
-ghost use Rattle.refusal.specs.Inner.{Tallied};
+ghost use Rattle.matrix.specs.Fits.{block_fits};
+ghost use Rattle.refusal.specs.Search.{first_row, first_place, spoils, first_not_finite, first_spoiling};
+ghost use Rattle.refusal.specs.Inner.{found};
 
 use crate::refusal::Place;
 
-// The first row of column j that is not finite; n where there is none.
-fn row_not_finite(t: &[f64], n: usize, j: usize) -> usize
-    requires { (n ≤ 64) × (length t.now ≡ n * n) × (j < n) }
-    ensures { (result ≡ first_row (not_finite n t.now) n j) × (result ≤ n) }
-{
-    let mut i = 0;
-    while i < n {
-        if !scalar::is_finite(t[j * n + i]) {
-            return i;
-        }
-        i = i + 1;
-    }
-    i
+// Which entries of a matrix are finite numbers, where `value` is the float that an entry stands for.
+pub trait Finite<E> {
+    ghost value: { E → Float };
+
+    fn is_finite(entry: &E) -> bool
+        ensures { result ≡ is_finite (value entry.now) };
 }
 
-// Column by column.
-fn place_not_finite(t: &[f64], n: usize) -> Option<Place>
-    requires { (n ≤ 64) × (length t.now ≡ n * n) }
-    ensures { result ≡ first_place (not_finite n t.now) n }
-{
-    let mut j = 0;
-    while j < n {
-        let i = row_not_finite(t, n, j);
-        if i < n {
-            return Some(Place { row: i, col: j });
-        }
-        j = j + 1;
+// Entries that are floats.
+struct Floats;
+
+impl Finite<f64> for Floats {
+    ghost value = { λ x. x };
+
+    fn is_finite(entry: &f64) -> bool {
+        scalar::is_finite(*entry)
     }
-    None
 }
 
-// The count, and one more where x is not finite.
-fn count(bad: usize, x: f64) -> usize
-    requires { bad < 18446744073709551615 }
-    ensures { Tallied bad (is_finite x) result }
-{
-    if scalar::is_finite(x) {
-        return bad;
-    }
-    bad + 1
-}
-
-// Whether all numbers are finite. Those that are not are counted, and nothing leaves the loop: so the compiler
-// takes several at once.
-fn all_finite(t: &[f64]) -> bool
-    ensures { result ≡ true → (k : ℕ) → k < length t.now → is_finite (t.now ! k) ≡ true }
+// Whether all entries are finite. Those that are not are counted, and nothing leaves the loop: so the compiler takes
+// several at once.
+fn all_finite<E, F: Finite<E>>(t: &[E]) -> bool
+    ensures { result ≡ list_all (λ x. is_finite (F.value x)) t.now }
 {
     let mut bad = 0;
-    for i in 0..t.len() {
-        bad = count(bad, t[i]);
+    for x in t {
+        bad += usize::from(!F::is_finite(x));
     }
     bad == 0
 }
 
-// The first entry that is NaN or infinite: sought only where there is one.
+// Whether t is as long as a matrix of order n.
+fn is_whole(n: usize, len: usize) -> bool
+    ensures { result ≡ block_fits n len n n }
+{
+    matrix::block_fits(n, len, 0, n, 0, n)
+}
+
+// The index of the first entry that is NaN or infinite: sought only where there is one.
+fn index_not_finite<E, F: Finite<E>>(t: &[E]) -> Option<usize>
+    ensures { result ≡ position (λ x. not (is_finite (F.value x))) t.now }
+{
+    if all_finite::<E, F>(t) {
+        return None;
+    }
+    t.iter().position(|x| !F::is_finite(x))
+}
+
+// Its place.
+pub fn first_entry_not_finite<E, F: Finite<E>>(t: &[E], n: usize) -> Option<Place>
+    ensures { result ≡ first_not_finite n (map F.value t.now) }
+{
+    if !is_whole(n, t.len()) {
+        return None;
+    }
+    let k = index_not_finite::<E, F>(t)?;
+    Some(Place {
+        row: k % n,
+        col: k / n,
+    })
+}
+
+// The same of floats.
 pub fn first_not_finite(t: &[f64], n: usize) -> Option<Place>
     ensures { result ≡ first_not_finite n t.now }
 {
-    if !matrix::block_fits(n, t.len(), 0, n, 0, n) {
-        return None;
-    }
-    if all_finite(t) {
-        return None;
-    }
-    place_not_finite(t, n)
+    first_entry_not_finite::<f64, Floats>(t, n)
 }
 
 // Whether the entry just below the diagonal in column j spoils the shape: it is not 0, and neither is the
@@ -82,66 +85,45 @@ fn just_below_spoils(t: &[f64], n: usize, j: usize) -> bool
     requires { (n ≤ 64) × (length t.now ≡ n * n) × (j + 1 < n) }
     ensures { result ≡ spoils n t.now (j + 1) j }
 {
-    if scalar::is_zero(matrix::entry(t, n, j + 1, j)) {
-        return false;
-    }
-    if j == 0 {
+    if j == 0 || scalar::is_zero(matrix::entry(t, n, j + 1, j)) {
         return false;
     }
     !scalar::is_zero(matrix::entry(t, n, j, j - 1))
 }
 
-// The first row of column j, from two below the diagonal on, that is not 0; n where there is none.
-fn row_far_below(t: &[f64], n: usize, j: usize) -> usize
+// The first row of column j, from two below the diagonal on, that is not 0.
+fn row_far_below(t: &[f64], n: usize, j: usize) -> Option<usize>
     requires { (n ≤ 64) × (length t.now ≡ n * n) × (j + 1 < n) }
-    ensures { (result ≡ first_from (λ i. spoils n t.now i j) n (j + 2)) × (result ≤ n) }
+    ensures { result ≡ found n (first_from (λ i. spoils n t.now i j) n (j + 2)) }
 {
-    let mut i = j + 2;
-    while i < n {
-        if !scalar::is_zero(t[j * n + i]) {
-            return i;
-        }
-        i = i + 1;
-    }
-    i
+    (j + 2..n).find(|i| !scalar::is_zero(t[j * n + *i]))
 }
 
-// The first row of column j that spoils the shape; n where there is none.
-fn row_spoiling(t: &[f64], n: usize, j: usize) -> usize
+// The first row of column j that spoils the shape.
+fn row_spoiling(t: &[f64], n: usize, j: usize) -> Option<usize>
     requires { (n ≤ 64) × (length t.now ≡ n * n) × (j < n) }
-    ensures { (result ≡ first_row (spoils n t.now) n j) × (result ≤ n) }
+    ensures { result ≡ found n (first_row (spoils n t.now) n j) }
 {
     if j + 1 == n {
-        return n;
+        return None;
     }
     if just_below_spoils(t, n, j) {
-        return j + 1;
+        return Some(j + 1);
     }
     row_far_below(t, n, j)
-}
-
-// Column by column.
-fn place_spoiling(t: &[f64], n: usize) -> Option<Place>
-    requires { (n ≤ 64) × (length t.now ≡ n * n) }
-    ensures { result ≡ first_place (spoils n t.now) n }
-{
-    let mut j = 0;
-    while j < n {
-        let i = row_spoiling(t, n, j);
-        if i < n {
-            return Some(Place { row: i, col: j });
-        }
-        j = j + 1;
-    }
-    None
 }
 
 // The first entry that spoils the quasi-triangular shape.
 pub fn first_spoiling(t: &[f64], n: usize) -> Option<Place>
     ensures { result ≡ first_spoiling n t.now }
 {
-    if !matrix::block_fits(n, t.len(), 0, n, 0, n) {
+    if !is_whole(n, t.len()) {
         return None;
     }
-    place_spoiling(t, n)
+    for col in 0..n {
+        if let Some(row) = row_spoiling(t, n, col) {
+            return Some(Place { row, col });
+        }
+    }
+    None
 }

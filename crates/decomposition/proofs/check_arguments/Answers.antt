@@ -1,25 +1,17 @@
 -- `decomposition::check_arguments` meets its contract. Assumes nothing.
+use native.Mathlib.Omega.{arith}
 use mathlib.Core.Path.{sym, ◌∙◌}
-use Rattle.refusal.proofs.ChecksInTurn.{next_first, next_then}
+use Prim.Native.Nat.{◌≤◌}
+use Rattle.loops.specs.Place.{square_64}
 use Rattle.refusal.proofs.PassedChecks.{order_passed}
-use Rattle.decomposition.specs.Checks.{argument_checks}
+use Rattle.decomposition.proofs.check_arguments.Goals.{In_ok-check_order}
 use Rattle.decomposition.proofs.check_arguments.Goals as goal
 
-pub check_all_lengths-lengths-requires : goal.check_all_lengths-lengths-requires
-check_all_lengths-lengths-requires c = (order_passed _ (sym c.check_order-order.ensures ∙ c.in-Passed.is)).order
+order : (c : In_ok-check_order) → c.args.asked.order ≤ 64
+order c = (order_passed _ (sym c.check_order.ensures ∙ c.in_ok-check_order.was)).order
 
-pub returns-in_default-lengths : goal.returns-in_default-lengths
-unfolding argument_checks
-returns-in_default-lengths c =
-    next_then c.check_order-order.ensures c.in-Passed.is
-    (next_first _ c.check_all_lengths-lengths.ensures c.in_default-lengths.is)
+pub overflow_mul-n : goal.overflow_mul-n
+overflow_mul-n c = let small = order (goal.at.overflow_mul-n c).In_ok-check_order in omega (arith, square_64 c.args.asked.order small)
 
-pub returns : goal.returns
-unfolding argument_checks
-returns c =
-    next_then c.check_order-order.ensures c.in-Passed.is
-    (next_then c.check_all_lengths-lengths.ensures c.in-Passed-lengths.is c.check_values.ensures)
-
-pub returns-in_default : goal.returns-in_default
-unfolding argument_checks
-returns-in_default c = next_first _ c.check_order-order.ensures c.in_default.is
+pub overflow_mul-n-2 : goal.overflow_mul-n-2
+overflow_mul-n-2 c = let small = order (goal.at.overflow_mul-n-2 c).In_ok-check_order in omega arith

@@ -1,14 +1,17 @@
 -- `plain::check_sizes` meets its contract. Assumes nothing.
+use native.Mathlib.Omega.{arith}
 use mathlib.Core.Path.{sym, ◌∙◌}
-use Rattle.refusal.proofs.ChecksInTurn.{next_first, next_then}
+use Prim.Native.Nat.{◌≤◌}
+use Rattle.loops.specs.Place.{square_64}
 use Rattle.refusal.proofs.PassedChecks.{order_passed}
+use Rattle.plain.proofs.check_sizes.Goals.{In_ok-check_order}
 use Rattle.plain.proofs.check_sizes.Goals as goal
 
-pub returns-in_default : goal.returns-in_default
-returns-in_default c = next_first _ c.check_order-order.ensures c.in_default.is
+order : (c : In_ok-check_order) → c.args.n ≤ 64
+order c = (order_passed _ (sym c.check_order.ensures ∙ c.in_ok-check_order.was)).order
 
-pub check_lengths-requires : goal.check_lengths-requires
-check_lengths-requires c = (order_passed _ (sym c.check_order-order.ensures ∙ c.in-Passed.is)).order
+pub overflow_mul-n : goal.overflow_mul-n
+overflow_mul-n c = let small = order (goal.at.overflow_mul-n c).In_ok-check_order in omega (arith, square_64 c.args.n small)
 
-pub returns : goal.returns
-returns c = next_then c.check_order-order.ensures c.in-Passed.is c.check_lengths.ensures
+pub overflow_mul-n-2 : goal.overflow_mul-n-2
+overflow_mul-n-2 c = let small = order (goal.at.overflow_mul-n-2 c).In_ok-check_order in omega arith

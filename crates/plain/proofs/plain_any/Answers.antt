@@ -11,8 +11,8 @@ returns-then-n-eq2 c =
     let two = c.plain_two.ensures in
     begun_two (in_place _ _ _ _) _ _ _ _ c.if-n-eq2.true two.told refl two.cleared
 
-pub returns : goal.returns
-returns c =
+pub returns-else-n-eq2 : goal.returns-else-n-eq2
+returns-else-n-eq2 c =
     let ran = c.plain_run.ensures in
     begun_run (in_place _ _ _ _) _ _ _ _ c.if-n-eq2.false ran.told ran.left ran.cleared
 

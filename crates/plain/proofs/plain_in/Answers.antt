@@ -1,23 +1,14 @@
 -- `plain::plain_in` meets its contract. Assumes nothing.
-use native.Mathlib.Omega.{arith}
-use mathlib.Core.Path.{sym}
-use lib.Seq.{length-take-le}
-use Rattle.loops.specs.Place.{square_64}
+use Rattle.refusal.specs.Refusal.{passed}
+use mathlib.Core.Path.{ap, ◌∙◌}
+use Rattle.std.proofs.Common.{arith}
+use Rattle.std.proofs.lemmas.Grind.{common_steps}
+use Rattle.matrix.proofs.Copied.{copied_whole}
+use Rattle.plain.specs.Plain.{plain_begun, kept}
 use Rattle.plain.proofs.plain_in.Goals as goal
 
-pub slice_bounds-plain_copied-end : goal.slice_bounds-plain_copied-end
-slice_bounds-plain_copied-end c = omega arith
-
-pub slice_bounds-plain_copied-end-2 : goal.slice_bounds-plain_copied-end-2
-slice_bounds-plain_copied-end-2 c = sym (length-take-le _ _ (omega arith))
-
-pub plain_copied-requires : goal.plain_copied-requires
-plain_copied-requires c =
-    (c.requires.0, length-take-le _ _ (omega arith))
-
 pub returns : goal.returns
-returns c =
-    c.plain_copied.ensures
-
-pub overflow_mul-n : goal.overflow_mul-n
-overflow_mul-n c = omega (arith, square_64 c.args.n (omega arith))
+returns g c =
+    let x = c.args in
+    ap (λ p. kept p) c.plain_any.ensures
+    ∙ ap (λ t. kept (plain_begun passed x.n t x.values.now x.work.now)) (c.copy_from.ensures ∙ copied_whole _ _ (grind (arith, common_steps)))

@@ -13,12 +13,3 @@ returns-then-n-eq2 c =
 
 pub plain_two-requires : goal.plain_two-requires
 plain_two-requires c = omega (arith, ap (λ k. k * k) c.if-n-eq2.true)
-
-pub returns-then-n-le8 : goal.returns-then-n-le8
-returns-then-n-le8 c = c.plain_8.ensures
-
-pub returns-then-n-le32 : goal.returns-then-n-le32
-returns-then-n-le32 c = c.plain_32.ensures
-
-pub returns : goal.returns
-returns c = c.plain_64.ensures

@@ -1,18 +1,17 @@
 -- `eigenvalues::readers::any_paired` meets its contract. Assumes nothing.
 use native.Mathlib.Omega.{arith}
-use mathlib.Core.Path.{sym, ◌∙◌}
-use Rattle.refusal.proofs.Searching.{sought_none, sought_more}
-use Rattle.eigenvalues.proofs.DiagonalSearch.{any_here, any_none}
+use mathlib.Core.Path.{refl, ◌∙◌}
+use Rattle.std.proofs.Common.{rules, tests}
+use Rattle.std.proofs.lemmas.Iterator.{YieldsList-from_range}
+use Rattle.std.proofs.lemmas.Iterator.Search.{any_from_yields_List}
+use Rattle.eigenvalues.specs.Blocks.{paired}
+use Rattle.eigenvalues.specs.Readers.{any_paired}
+use Rattle.eigenvalues.proofs.DiagonalSearch.{any_range}
 use Rattle.eigenvalues.proofs.readers.any_paired.Goals as goal
 
-pub loop-k-init : goal.loop-k-init
-loop-k-init c = sought_none _ _ 0 (omega arith)
-
-pub returns-then-is_paired : goal.returns-then-is_paired
-returns-then-is_paired c = any_here _ _ c.loop-k.invariant (omega arith) (sym c.is_paired.ensures ∙ c.if-is_paired.true)
-
-pub loop-k-preserved : goal.loop-k-preserved
-loop-k-preserved c = sought_more c.loop-k.invariant (omega arith) (sym c.is_paired.ensures ∙ c.if-is_paired.false)
-
 pub returns : goal.returns
-returns c = any_none _ _ c.loop-k.invariant (omega arith)
+unfolding any_paired
+returns c =
+    let x = c.args in
+    any_from_yields_List (paired x.n x.t.now) _ _ c.any.result c.any.ensures.ran (YieldsList-from_range 0 x.n x.n refl (omega arith)) (λ k b q h. search (rules, tests))
+    ∙ any_range _ _

@@ -1,5 +1,5 @@
 -- `eigenvalues::readers::do_complex_eigenvalues` meets its contract. Assumes nothing.
-use Prim.Native.Nat.{ℕ, ◌-◌}
+use Prim.Native.Nat.{ℕ}
 use mathlib.Core.List.{List}
 use mathlib.Core.Path.{◌≡◌}
 use lib.Ieee.{Float}
@@ -16,6 +16,3 @@ pub record Reading (n : ℕ) (t re im : List Float) (before : BlockAnswer) (k : 
 
 abbrev pub invariant-loop-k : goal.invariant-loop-k
 invariant-loop-k l = Reading l.n l.t l.re l.im l.before l.k
-
-abbrev pub decreases-loop-k : goal.decreases-loop-k
-decreases-loop-k l = l.n - l.k

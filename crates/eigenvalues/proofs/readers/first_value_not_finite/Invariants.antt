@@ -1,5 +1,5 @@
 -- `eigenvalues::readers::first_value_not_finite` meets its contract. Assumes nothing.
-use Prim.Native.Nat.{ℕ, ◌-◌}
+use Prim.Native.Nat.{ℕ}
 use mathlib.Core.List.{List}
 use mathlib.Core.Path.{◌≡◌}
 use lib.Ieee.{Float}
@@ -16,6 +16,3 @@ pub record Seeking (n : ℕ) (t : List Float) (before : BlockAnswer) (k : ℕ) :
 
 abbrev pub invariant-loop-k : goal.invariant-loop-k
 invariant-loop-k l = Seeking l.n l.t l.before l.k
-
-abbrev pub decreases-loop-k : goal.decreases-loop-k
-decreases-loop-k l = l.n - l.k

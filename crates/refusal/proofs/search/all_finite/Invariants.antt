@@ -1,12 +1,8 @@
 -- `refusal::search::all_finite` meets its contract. Assumes nothing.
-use Prim.Native.Nat.{◌-◌}
-use Rattle.loops.specs.Rounded.{◌!◌}
+use Rattle.std.proofs.Common.{◌≡◌, ◌≤◌, take, nat_eq}
+use Rattle.std.specs.List.{list_all}
 use Rattle.scalar.specs.Class.{is_finite}
-use Rattle.refusal.proofs.Tallying.{Tally}
 use Rattle.refusal.proofs.search.all_finite.Given as goal
 
-abbrev pub invariant-loop-i : goal.invariant-loop-i
-invariant-loop-i l = Tally (λ k. is_finite (l.t ! k)) l.i-end l.bad l.i
-
-abbrev pub decreases-loop-i : goal.decreases-loop-i
-decreases-loop-i l = l.i-end - l.i
+abbrev pub invariant-loop-x : goal.invariant-loop-x
+invariant-loop-x g l = (l.bad ≤ l.x-index) × (nat_eq l.bad 0 ≡ list_all (λ x. is_finite (g.F.Finite.value x)) (take l.x-index l.t))

@@ -1,27 +1,40 @@
 -- `refusal::search::first_spoiling` meets its contract. Assumes nothing.
 use native.Mathlib.Omega.{arith}
-use mathlib.Core.Path.{◌≡◌}
+use mathlib.Core.Path.{◌≡◌, sym, ◌∙◌}
+use mathlib.Core.Bool.{true}
 use lib.ListN.{length}
 use Rattle.matrix.specs.Fits.{block_fits}
-use Rattle.matrix.proofs.Fitting.{within, inside, outside, from_row_0, from_column_0}
+use Rattle.matrix.proofs.Fitting.{fits}
 use Rattle.refusal.specs.Search.{first_spoiling}
-use Rattle.std.specs.Prelude.{not}
-use Rattle.std.proofs.Common.{ap}
-use Rattle.refusal.proofs.search.first_spoiling.Goals.{After-block_fits}
+use Rattle.refusal.proofs.Searching.{searched_none, searched_more, searched_here, searched_done, some_found, none_found}
+use Rattle.refusal.proofs.search.first_spoiling.Goals.{Else-not-is_whole}
 use Rattle.refusal.proofs.search.first_spoiling.Goals as goal
 
-whole : (c : After-block_fits) → let x = c.args in c.block_fits.result ≡ block_fits x.n (length x.t.now) x.n x.n
-whole c = from_row_0 _ _ _ _ (from_column_0 _ _ _ _ c.block_fits.ensures)
+whole : (c : Else-not-is_whole) → let x = c.args in block_fits x.n (length x.t.now) x.n x.n ≡ true
+whole c = sym c.is_whole.ensures ∙ c.if-not-is_whole.false
 
-pub returns-then-not-block_fits : goal.returns-then-not-block_fits
+pub returns-then-not-is_whole : goal.returns-then-not-is_whole
 unfolding first_spoiling
-returns-then-not-block_fits c = rw (outside (whole (goal.at.returns-then-not-block_fits c).After-block_fits) (ap not c.if-not-block_fits.true))
+returns-then-not-is_whole c = rw (sym c.is_whole.ensures ∙ c.if-not-is_whole.true)
 
-pub place_spoiling-requires : goal.place_spoiling-requires
+pub loop-col-init : goal.loop-col-init
+loop-col-init c = searched_none _ _
+
+pub row_spoiling-requires : goal.row_spoiling-requires
+row_spoiling-requires c =
+    let x = c.args in
+    let f = fits x.n (length x.t.now) x.n x.n (sym c.is_whole.ensures ∙ c.if-not-is_whole.false) in
+    (f.order, f.size, omega arith)
+
+pub returns-in-Some : goal.returns-in-Some
 unfolding first_spoiling
-place_spoiling-requires c =
-    omega (arith, within _ _ _ _ (whole (goal.at.place_spoiling-requires c).After-block_fits) (ap not c.if-not-block_fits.false))
+returns-in-Some c =
+    let f = some_found c.in-Some.ensures in
+    rw (sym c.is_whole.ensures ∙ c.if-not-is_whole.false) (searched_here c.loop-col.invariant (omega arith) f.0 f.1)
+
+pub loop-col-preserved : goal.loop-col-preserved
+loop-col-preserved c = searched_more c.loop-col.invariant (omega arith) (none_found c.in_default.ensures)
 
 pub returns : goal.returns
 unfolding first_spoiling
-returns c = rw (inside (whole (goal.at.returns c).After-block_fits) (ap not c.if-not-block_fits.false)) c.place_spoiling.ensures
+returns c = rw (sym c.is_whole.ensures ∙ c.if-not-is_whole.false) (searched_done c.loop-col.invariant (omega arith))
