@@ -9,7 +9,7 @@ use Rattle.scalar.specs.Sign.{to_exp_of}
 use Rattle.matrix.specs.Known.{numbers, shown, opened}
 use Rattle.givens.specs.declared.Rotation.{Rotation}
 use Rattle.givens.specs.declared.Turn.{Turn}
-use Rattle.givens.specs.Rotation.{rotation, identity_of, inverse_of, length_of, signed_length, try_new, or_identity}
+use Rattle.givens.specs.Rotation.{rotation, identity_of, inverse_of, try_new}
 use Rattle.givens.specs.Rotation.{new_of, cancel_y}
 use Rattle.givens.specs.Rotated.{turned_rows, rotated, turned_columns, rotated_rows}
 
@@ -27,7 +27,7 @@ with f x y = f (of_bits binary64 x) (of_bits binary64 y)
 
 -- every definition that a case computes with
 unfoldable pub opened_here : Unit {0}
-unfolding opened turn_shown made with to_exp_of length_of signed_length try_new or_identity new_of cancel_y
+unfolding opened turn_shown made with to_exp_of try_new new_of cancel_y
     turned_rows rotated turned_columns rotated_rows sub lt eq neg
 opened_here = tt
 

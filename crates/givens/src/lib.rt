@@ -7,20 +7,21 @@ ghost use Rattle.givens.specs.Rotation.{identity_of, inverse_of, try_new, new_of
 ghost use Rattle.givens.specs.Rotated.{rotated, rotated_rows};
 
 // Cosine and sine.
-#[derive(Clone, Copy)]
+#[derive(Clone, Copy, Debug, PartialEq)]
 pub struct Rotation {
     pub c: f64,
     pub s: f64,
 }
 
 // A rotation, with the norm of the pair that it was made from.
-#[derive(Clone, Copy)]
+#[derive(Clone, Copy, Debug, PartialEq)]
 pub struct Turn {
     pub rotation: Rotation,
     pub norm: f64,
 }
 
 // Where row i of column j of a matrix of order n lies.
+#[tactic(auto, using(loops::specs::Place::placed))]
 fn at(n: usize, i: usize, j: usize) -> usize
     requires { (n ≤ 64) × (i < n) × (j < n) }
     ensures { (result ≡ j * n + i) × (j * n + i < n * n) × (n * n ≤ 4096) }
@@ -37,19 +38,18 @@ impl Rotation {
     }
 
     // From a cosine and a sine that are not normalized: the identity where their length is not above 0.
+    #[tactic(auto, unfolding(crate::specs::Rotation::new_of))]
     pub fn new(c: f64, s: f64) -> Turn
         ensures { result ≡ new_of c s }
     {
-        let Some(turn) = Rotation::try_new(c, s, 0.0) else {
-            return Turn {
-                rotation: Rotation::identity(),
-                norm: 0.0,
-            };
-        };
-        turn
+        Rotation::try_new(c, s, 0.0).unwrap_or(Turn {
+            rotation: Rotation::identity(),
+            norm: 0.0,
+        })
     }
 
     // The same: none where the length is not above eps.
+    #[tactic(auto, unfolding(crate::specs::Rotation::try_new))]
     pub fn try_new(c: f64, s: f64, eps: f64) -> Option<Turn>
         ensures { result ≡ try_new c s eps }
     {
@@ -70,6 +70,7 @@ impl Rotation {
     }
 
     // The rotation that takes (x, y) to (norm, 0): none is needed where y is 0.
+    #[tactic(auto, unfolding(crate::specs::Rotation::cancel_y))]
     pub fn cancel_y(x: f64, y: f64) -> Option<Turn>
         ensures { result ≡ cancel_y x y }
     {
@@ -99,8 +100,8 @@ impl Rotation {
         }
     }
 
-    // Turns rows i and i + 1 of the matrix t of order n, in the columns from c0 to below c1. Nothing is
-    // done where they do not lie in the matrix.
+    // Turns rows i and i + 1 of the matrix t of order n, in the columns from c0 to below c1. A no-op
+    // unless they lie in the matrix.
     pub fn rotate(self, t: &mut [f64], n: usize, i: usize, c0: usize, c1: usize)
         ensures { t.new ≡ rotated self n i c0 c1 t.old }
     {
@@ -119,8 +120,8 @@ impl Rotation {
         }
     }
 
-    // Turns columns k and k + 1 of the matrix t of order n, in its first `rows` rows. Nothing is done
-    // where they do not lie in the matrix.
+    // Turns columns k and k + 1 of the matrix t of order n, in its first `rows` rows. A no-op unless
+    // they lie in the matrix.
     pub fn rotate_rows(self, t: &mut [f64], n: usize, k: usize, rows: usize)
         ensures { t.new ≡ rotated_rows self n k rows t.old }
     {

@@ -2,4 +2,3 @@
 pub mod Frames
 pub mod Lent
 mod Column
-mod Empty

@@ -22,7 +22,7 @@ reduce_column n k r =
     reduction c.matrix (set (on_part (λ w. (clear_of n k r.matrix w).work) 0 n r.work) (n + k) c.norm)
 
 -- whether the workspace has room for a matrix of order n
-unfoldable pub work_fits : ℕ → List Float → Bool
+abbrev pub work_fits : ℕ → List Float → Bool
 work_fits n w = eqb (length w) (2 * n)
 
 -- every column but the last; nothing is done where t is no matrix of order n, or the workspace has another length

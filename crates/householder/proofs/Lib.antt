@@ -6,3 +6,4 @@ pub mod Lent
 pub mod One
 mod Identity
 mod Empty
+pub mod Bounds

@@ -3,6 +3,7 @@ ghost use Rattle.std.specs.Prelude.{◌≡◌, length, ◌*◌, ◌≤◌};
 ghost use Rattle.householder.specs.Assembled.{identity, assembled};
 
 // 1 on the diagonal of the matrix q of order n, +0 elsewhere.
+#[tactic(auto, using(crate::proofs::Bounds::bounds))]
 fn fill_with_identity(q: &mut [f64], n: usize)
     requires { (n ≤ 64) × (length q.old ≡ n * n) }
     ensures { q.new ≡ identity n q.old }
@@ -15,7 +16,8 @@ fn fill_with_identity(q: &mut [f64], n: usize)
 }
 
 // Q from the axes that stand below the diagonal of m, both of order n: column i's axis with the sign of
-// signs[i], also where no reflection was made. Nothing is done where a slice is too short or too long.
+// signs[i], also where no reflection was made. A no-op unless m and q have n * n numbers, and signs n - 1.
+#[tactic(auto, using(crate::proofs::Bounds::bounds), unfolding(crate::specs::Assembled::assembled))]
 pub fn assemble_q(m: &[f64], n: usize, signs: &[f64], q: &mut [f64])
     ensures { q.new ≡ assembled n m.now signs.now q.old }
 {
@@ -25,17 +27,14 @@ pub fn assemble_q(m: &[f64], n: usize, signs: &[f64], q: &mut [f64])
     if !matrix::block_fits(n, q.len(), 0, n, 0, n) {
         return;
     }
-    if n == 0 {
+    let Some(last) = n.checked_sub(1) else {
         return;
-    }
-    let last = n - 1;
+    };
     if last > signs.len() {
         return;
     }
     fill_with_identity(q, n);
-    let mut i = last;
-    while i > 0 {
-        i = i - 1;
+    for i in (0..last).rev() {
         let next = i + 1;
         let a = i * n + next;
         let e = i * n + n;

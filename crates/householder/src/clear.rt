@@ -6,6 +6,7 @@ ghost use Rattle.householder.specs.Cleared.{below_row, cleared, clear_of, both_s
 // Both sides of the matrix t of order n by the axis that stands in column k below row k: all rows first,
 // then the columns right of column k. The axis is copied into `work` and used there, since the matrix
 // is rewritten meanwhile.
+#[tactic(auto, using(crate::proofs::Bounds::bounds))]
 fn reflect_both_sides(t: &mut [f64], n: usize, k: usize, work: &mut [f64], sign: f64)
     requires { (n ≤ 64) × (length t.old ≡ n * n) × (k + 2 ≤ n) × (n ≤ length work.old) }
     ensures { (t.new ≡ both_sides n k (below_row n k t.old) sign t.old)
@@ -21,8 +22,9 @@ fn reflect_both_sides(t: &mut [f64], n: usize, k: usize, work: &mut [f64], sign:
 }
 
 // Clears column icol of the matrix t of order n below the entry under its diagonal, by a reflection of
-// both sides, and leaves the reflection's axis there. Answers the norm with its sign; NaN, with nothing
-// done, where there is no row below row icol or `work` is shorter than n.
+// both sides, and leaves the reflection's axis there. Answers the norm with its sign; a no-op that answers
+// NaN unless there is a row below row icol and `work` has n numbers or more.
+#[tactic(auto, using(crate::proofs::Bounds::bounds), unfolding(crate::specs::Cleared::clear_of))]
 pub fn clear_column(t: &mut [f64], n: usize, icol: usize, work: &mut [f64]) -> f64
     ensures { cleared result t.new work.new
         ≡ clear_of n icol t.old work.old }

@@ -10,7 +10,7 @@ use crate::setting::Setting;
 use givens::Rotation;
 
 // Rows (h00 h01), (h10 h11).
-#[derive(Clone, Copy)]
+#[derive(Clone, Copy, Debug, PartialEq)]
 pub struct Block {
     pub h00: f64,
     pub h10: f64,
@@ -18,13 +18,14 @@ pub struct Block {
     pub h11: f64,
 }
 
-#[derive(Clone, Copy)]
+#[derive(Clone, Copy, Debug, PartialEq)]
 pub struct Values {
     pub first: f64,
     pub second: f64,
 }
 
 // The block with its upper left entry in row and column k.
+#[tactic(auto, unfolding(crate::specs::Block::block_at))]
 fn block_at(t: &[f64], n: usize, k: usize) -> Block
     requires { Reaches n (k + 1) t.now }
     ensures { result ≡ block_at n k t.now }
@@ -38,6 +39,7 @@ fn block_at(t: &[f64], n: usize, k: usize) -> Block
 }
 
 // Not by trace and determinant: so it is never below 0 for a symmetric block.
+#[tactic(auto, unfolding(crate::specs::Block::discriminant))]
 pub fn discriminant(m: Block) -> f64
     ensures { result ≡ discriminant m }
 {
@@ -45,6 +47,7 @@ pub fn discriminant(m: Block) -> f64
     m.h10 * m.h01 + val * val
 }
 
+#[tactic(auto, unfolding(crate::specs::Block::eigvals_of))]
 pub fn compute_2x2_eigvals(m: Block) -> Option<Values>
     ensures { result ≡ eigvals_of m }
 {
@@ -52,60 +55,61 @@ pub fn compute_2x2_eigvals(m: Block) -> Option<Values>
     if discr >= 0.0 {
         let root = scalar::sqrt(discr);
         let half_tra = (m.h00 + m.h11) * 0.5;
-        return Some(Values {
+        Some(Values {
             first: half_tra + root,
             second: half_tra - root,
-        });
+        })
+    } else {
+        None
     }
-    None
 }
 
 // None for a block that is triangular already or has no real eigenvalues.
+#[tactic(auto, unfolding(crate::specs::Block::basis_of, crate::specs::Block::basis_by))]
 pub fn compute_2x2_basis(m: Block) -> Option<Rotation>
     ensures { result ≡ basis_of m }
 {
     if scalar::is_zero(m.h10) {
         return None;
     }
-    let Some(eigvals) = compute_2x2_eigvals(m) else {
-        return None;
-    };
+    let eigvals = compute_2x2_eigvals(m)?;
     let x1 = eigvals.first - m.h11;
     let x2 = eigvals.second - m.h11;
     // The larger of the two: the rotation's length is then worked out the more exactly.
-    if scalar::modulus(x1) > scalar::modulus(x2) {
-        let rot = Rotation::new(x1, m.h10).rotation;
-        return Some(rot);
-    }
-    let rot = Rotation::new(x2, m.h10).rotation;
-    Some(rot)
+    let x = if scalar::modulus(x1) > scalar::modulus(x2) {
+        x1
+    } else {
+        x2
+    };
+    Some(Rotation::new(x, m.h10).rotation)
 }
 
 // T turned by the rotation of the block at k: the block becomes triangular, or is left standing.
+#[tactic(auto, unfolding(crate::specs::Block::turned_t))]
 fn turn_t(basis: Option<Rotation>, t: &mut [f64], n: usize, k: usize)
     requires { Reaches n (k + 1) t.old }
     ensures { t.new ≡ turned_t n k basis t.old }
 {
-    let Some(rot) = basis else {
-        return;
-    };
-    rot.inverse().rotate(t, n, k, k, n);
-    rot.rotate_rows(t, n, k, k + 2);
-    put(t, n, k + 1, k, 0.0);
+    if let Some(rot) = basis {
+        rot.inverse().rotate(t, n, k, k, n);
+        rot.rotate_rows(t, n, k, k + 2);
+        put(t, n, k + 1, k, 0.0);
+    }
 }
 
 // Q turned by the same.
+#[tactic(auto, unfolding(crate::specs::Block::turned_q))]
 fn turn_q(basis: Option<Rotation>, q: &mut [f64], n: usize, k: usize)
     requires { k + 1 < n }
     ensures { q.new ≡ turned_q n k basis q.old }
 {
-    let Some(rot) = basis else {
-        return;
-    };
-    rot.rotate_rows(q, n, k, n);
+    if let Some(rot) = basis {
+        rot.rotate_rows(q, n, k, n);
+    }
 }
 
-// A window of two, at k: nothing is done where it is none of the matrix.
+// A window of two, at k: a no-op unless its rows are in the matrix.
+#[tactic(auto, using(matrix::proofs::Fitting::fits), unfolding(crate::specs::Block::split_at))]
 pub fn split(t: &mut [f64], q: &mut [f64], asked: Setting, k: usize)
     ensures { pair t.new q.new ≡ split_at asked k (pair t.old q.old) }
 {
@@ -120,26 +124,22 @@ pub fn split(t: &mut [f64], q: &mut [f64], asked: Setting, k: usize)
 }
 
 // Q of order 2: the rotation itself, or the identity.
+#[tactic(auto, unfolding(crate::specs::Block::columns_in, crate::specs::Block::columns_of))]
 fn basis_columns(basis: Option<Rotation>, q: &mut [f64])
     ensures { q.new ≡ columns_in basis q.old }
 {
     if q.len() != 4 {
         return;
     }
-    let Some(rot) = basis else {
-        q[0] = 1.0;
-        q[1] = 0.0;
-        q[2] = 0.0;
-        q[3] = 1.0;
-        return;
+    let columns = match basis {
+        None => [1.0, 0.0, 0.0, 1.0],
+        Some(rot) => [rot.c, rot.s, -rot.s, rot.c],
     };
-    q[0] = rot.c;
-    q[1] = rot.s;
-    q[2] = -rot.s;
-    q[3] = rot.c;
+    q.copy_from_slice(&columns);
 }
 
-// Order 2, whole: no scaling and no pass. Nothing is done where t has another order.
+// Order 2, whole: no scaling and no pass. A no-op unless t has that order.
+#[tactic(auto, unfolding(crate::specs::Block::order_two))]
 pub fn decompose_2x2(t: &mut [f64], q: &mut [f64], asked: Setting)
     ensures { pair t.new q.new ≡ order_two asked (pair t.old q.old) }
 {

@@ -9,8 +9,7 @@ mod setting;
 mod shift;
 
 pub use block::{
-    Block, Values, compute_2x2_basis, compute_2x2_eigvals, decompose_2x2,
-    discriminant, split,
+    Block, Values, compute_2x2_basis, compute_2x2_eigvals, decompose_2x2, discriminant, split,
 };
 pub use setting::Setting;
 pub use shift::double_shift;

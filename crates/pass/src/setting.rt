@@ -1,5 +1,5 @@
 // What a run is asked for. It goes by value from the entry to every step of a pass.
-#[derive(Clone, Copy)]
+#[derive(Clone, Copy, Debug, PartialEq)]
 pub struct Setting {
     pub order: usize,
     pub wanted: bool,

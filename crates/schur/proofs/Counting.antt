@@ -1,6 +1,6 @@
 -- What a run answers, by the definition's count, which is of the matrix alone: it ends, with that count, below the budget; or the count is the budget or more.
 -- Assumes nothing.
-use Rattle.std.specs.Prelude.{Ok}
+use Rattle.std.specs.Prelude.{Err, Ok}
 use Rattle.schur.specs.Run.{Ran}
 use Prim.Native.Nat.{ℕ, ◌+◌, ◌*◌, ◌<◌, ◌≤◌}
 use mathlib.Core.Bool.{Bool, true, false, cond, true≢false}
@@ -95,7 +95,7 @@ module _ (asked : Setting) (r : Running) (first : passes_at r ≡ 0) where
 -- orders 1 and 2 end with no pass counted, even at a budget of 0
 pub data Tells (l : Left) (count budget : ℕ) : Type 0 where
   ended : (1 ≤ budget → count < budget) → l.answer ≡ Ok count → Tells l count budget
-  reached : (w : Window) → budget ≤ count → l.answer ≡ BudgetReached w → Tells l count budget
+  reached : (w : Window) → budget ≤ count → l.answer ≡ Err (BudgetReached w) → Tells l count budget
 
 answered_tells : {count : ℕ} (budget : ℕ) (amax : Float) (r : Running) → Counts (passes_at r) budget count → Tells (answered budget amax r) count budget
 answered_tells {count} budget amax r c = elim c [

@@ -2,7 +2,7 @@
 use Rattle.std.specs.Prelude.{ℕ, List}
 use Rattle.std.specs.Float.Ieee.{sub, neg, eq, lt, le}
 use Rattle.loops.specs.Until.{until}
-use Rattle.givens.specs.Rotation.{length_of, signed_length, try_new, or_identity, new_of}
+use Rattle.givens.specs.Rotation.{try_new, new_of}
 use Rattle.givens.specs.Rotated.{turned_rows, rotated, turned_columns, rotated_rows}
 use Rattle.hessenberg.specs.Known.{opened_hess}
 use Rattle.window.specs.Window.{small, stands, fall, end_from, cut, start_from, delimit_here, delimit_of}
@@ -16,7 +16,7 @@ use Rattle.schur.specs.Run.{reduced_pair, opened, answered, run_fits, ran_of, ru
 
 -- every definition that a case computes with
 unfoldable pub opened_schur : Unit {0}
-unfolding opened_hess until sub length_of signed_length try_new or_identity new_of turned_rows rotated turned_columns
+unfolding opened_hess until sub try_new new_of turned_rows rotated turned_columns
     rotated_rows
     small stands fall end_from cut start_from delimit_here delimit_of first_column bulge bulge_end swept swept_past
     column_at reflected_at step_at chased closing pass_here pass_of

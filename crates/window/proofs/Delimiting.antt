@@ -1,35 +1,15 @@
--- Delimiting by what its tests and its two searches have found. Assumes nothing.
+-- Delimiting by what its two searches have found. Assumes nothing.
 use Prim.Native.Nat.{ℕ, ◌-◌, ◌<◌}
-use mathlib.Core.Bool.{true, false, cond, ◌||◌}
+use mathlib.Core.Bool.{cond}
 use mathlib.Core.Path.{◌≡◌, sym, ap, ◌∙◌}
 use mathlib.Core.List.{List}
 use native.Mathlib.Omega.{arith}
 use borrow.Author.Tests.{eq-eqb, ne_eqb}
 use lib.Dec.{eqb}
-use lib.Ieee.{Float, le}
-use Rattle.loops.specs.Place.{place}
-use Rattle.loops.specs.Rounded.{◌⊕◌, ◌⊗◌, ◌!◌}
+use lib.Ieee.{Float}
 use Rattle.loops.specs.Until.{until}
 use Rattle.loops.proofs.Until.{until_out}
-use Rattle.scalar.specs.Sign.{modulus_of}
-use Rattle.window.specs.Window.{window, below, small, decoupled, falling, end_from, cut, start_from, delimited, delimit_here}
-
--- ---- whether an entry passes for zero, told of its magnitude and of those beside it on the diagonal
-
-pub small_absolute : (n : ℕ) (eps : Float) (t : List Float) (i : ℕ) (off : Float) → off ≡ modulus_of (below n i t) → le off (eps ⊗ eps) ≡ true
-    → true ≡ small n eps t i
-unfolding small
-small_absolute n eps t i off e h =
-    let beside = eps ⊗ (modulus_of (t ! place n i i) ⊕ modulus_of (t ! place n (i - 1) (i - 1))) in
-    ap (λ d. d || le off beside) (sym h) ∙ ap (λ x. le x (eps ⊗ eps) || le x beside) e
-
-pub small_relative : (n : ℕ) (eps : Float) (t : List Float) (i : ℕ) (off a b : Float) → off ≡ modulus_of (below n i t) → le off (eps ⊗ eps) ≡ false
-    → a ≡ modulus_of (t ! place n i i) → b ≡ modulus_of (t ! place n (i - 1) (i - 1)) → le off (eps ⊗ (a ⊕ b)) ≡ small n eps t i
-unfolding small
-small_relative n eps t i off a b e h u v =
-    ap (λ d. d || le off (eps ⊗ (a ⊕ b))) (sym h) ∙ ap (λ x. le x (eps ⊗ eps) || le x (eps ⊗ (a ⊕ b))) e ∙ rw (u, v)
-
--- ---- the window
+use Rattle.window.specs.Window.{window, decoupled, falling, end_from, cut, start_from, delimited, delimit_here}
 
 -- the end fell to e and left t; the start is s
 found : (n : ℕ) (eps : Float) (end : ℕ) (t₀ : List Float) (e : ℕ) (t : List Float) (s : ℕ) → falling e t ≡ end_from n eps end t₀ → s ≡ start_from n eps e t

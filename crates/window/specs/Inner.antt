@@ -1,6 +1,12 @@
--- What the two searches of delimiting promise, each of itself. Nothing outside this crate cites it.
-use Rattle.std.specs.Prelude.{ℕ, ◌≤◌, ◌<◌, ◌≡◌, List, Float}
+-- What private functions ask of T, and what the two searches of delimiting promise, each of itself. Nothing outside
+-- this crate cites it.
+use Rattle.std.specs.Prelude.{ℕ, ◌*◌, ◌≤◌, ◌<◌, ◌≡◌, List, length, Float}
 use Rattle.window.specs.Window.{falling, end_from, start_from}
+
+-- t is a matrix of order n, at most 64
+pub record Square (n : ℕ) (t : List Float) : Type 0 where
+  pub order : n ≤ 64
+  pub size : length t ≡ n * n
 
 -- from `end` on t₀ the end has fallen to e, and T is t
 pub record EndFound (n : ℕ) (eps : Float) (end : ℕ) (t₀ : List Float) (e : ℕ) (t : List Float) : Type 0 where

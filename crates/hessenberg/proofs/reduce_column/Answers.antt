@@ -1,6 +1,4 @@
 -- `hessenberg::reduce_column` meets its contract. Assumes nothing.
-use native.Mathlib.Omega.{arith}
-use lib.ListN.{length-set}
 use Rattle.loops.specs.Part.{on_part}
 use Rattle.hessenberg.specs.Reduced.{reduce_column}
 use Rattle.hessenberg.proofs.reduce_column.Goals as goal
@@ -8,6 +6,3 @@ use Rattle.hessenberg.proofs.reduce_column.Goals as goal
 pub returns : goal.returns
 unfolding reduce_column on_part
 returns c = rw (← c.clear_column-norm.ensures)
-
-pub shape_of-work : goal.shape_of-work
-shape_of-work c = simp length-set (omega arith)

@@ -9,26 +9,22 @@ use Rattle.window.proofs.delimit_end.Goals as goal
 
 pub loop-e-init : goal.loop-e-init
 unfolding end_from
-loop-e-init c = record { size = omega arith; upto = omega arith; left = refl }
+loop-e-init c = refl
 
 -- the entry does not pass for zero
 pub returns-then-not-is_small : goal.returns-then-not-is_small
 unfolding stands
 returns-then-not-is_small c =
     let l = c.loop-e in
-    let stop : stands _ _ (falling l.e l.t) ≡ true = ap not (sym c.is_small.ensures) ∙ (ap not c.if-not-is_small.true) in
-    record { fallen = sym (until_stop _ _ _ _ stop) ∙ l.invariant.left; upto = omega arith }
+    let stop : stands _ _ (falling l.e l.t) ≡ true = ap not (sym c.is_small.ensures ∙ c.if-not-is_small.true) in
+    record { fallen = sym (until_stop _ _ _ _ stop) ∙ l.invariant; upto = omega arith }
 
 pub loop-e-preserved : goal.loop-e-preserved
 unfolding stands fall
 loop-e-preserved c =
     let l = c.loop-e in
-    let goes : stands _ _ (falling l.e l.t) ≡ false = ap not (sym c.is_small.ensures) ∙ (ap not c.if-not-is_small.false) in
-    record {
-      size = omega arith;
-      upto = omega arith;
-      left = rw c.put.ensures (sym (until_turn _ _ _ _ (omega arith) goes) ∙ l.invariant.left);
-    }
+    let goes : stands _ _ (falling l.e l.t) ≡ false = ap not (sym c.is_small.ensures ∙ c.if-not-is_small.false) in
+    rw c.put.ensures (sym (until_turn _ _ _ _ (omega arith) goes) ∙ l.invariant)
 
 -- row 0
 pub returns : goal.returns
@@ -37,6 +33,6 @@ returns c =
     let x = c.args in
     let e : l.e ≡ 0 = omega arith in
     record {
-      fallen = sym (ap (λ k. until (stands x.n x.eps) (fall x.n) k (falling l.e l.t)) e ∙ until_out _ _ _) ∙ l.invariant.left;
+      fallen = sym (ap (λ k. until (stands x.n x.eps) (fall x.n) k (falling k l.t)) e ∙ until_out _ _ _) ∙ l.invariant;
       upto = omega arith;
     }

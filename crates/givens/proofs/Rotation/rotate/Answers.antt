@@ -1,6 +1,5 @@
 -- `givens::Rotation::rotate` meets its contract. Assumes nothing.
 use native.Mathlib.Omega.{arith}
-use lib.ListN.{length-set}
 use Rattle.matrix.proofs.Walks.{down_refused, down_begun, down_more, down_done}
 use Rattle.givens.specs.Rotated.{rotated}
 use Rattle.givens.proofs.RotatedTurns.{turn_down}
@@ -21,10 +20,6 @@ returns-then-not-block_fits c = down_refused _ _ _ _ _ _ _ c.block_fits.ensures 
 pub loop-j-init : goal.loop-j-init
 unfolding rotated
 loop-j-init c = down_begun _ _ _ _ _ _ _ c.block_fits.ensures (ap not c.if-not-block_fits.false)
-
-pub bounds-t-q-in-loop-j : goal.bounds-t-q-in-loop-j
-unfolding rotated
-bounds-t-q-in-loop-j c = simp length-set (omega arith)
 
 pub returns : goal.returns
 unfolding rotated
