@@ -31,7 +31,7 @@ use Rattle.door.specs.Matrices.{AcceptedBytes}
 use Rattle.door.specs.Inner.{MatricesDone}
 use Rattle.door.proofs.MatrixLengths.{matrix_fit}
 
-module _ (r : Request) (m t q : List ℕ) (passed : matrix_checks r m (length t) (length q) ≡ passed) where
+module _ (r : Request) (m t q : List ℕ) (through : matrix_checks r m (length t) (length q) ≡ passed) where
   abbrev n : ℕ
   n = r.order
 
@@ -60,13 +60,13 @@ module _ (r : Request) (m t q : List ℕ) (passed : matrix_checks r m (length t)
   unfolding all_lengths
   lengths_pass =
       let square = zeros-length (n * n) in
-      next_passes (matrices_passes (record { m = floats_length m _ (matrix_fit r m _ _ passed).matrix; t = square; q = λ _. square }))
+      next_passes (matrices_passes (record { m = floats_length m _ (matrix_fit r m _ _ through).matrix; t = square; q = λ _. square }))
       (length_passes WrongLength (zeros-length (2 * n)))
 
   right : Right lengths asked r.budget a
   unfolding matrix_checks
   right =
-      let x = all_right _ _ _ _ passed in
+      let x = all_right _ _ _ _ through in
       record { some = x.some; order = x.order; lent = lengths_pass; near = x.near; bound = x.bound; entries = x.entries }
 
   -- ---- so the run is the library's
@@ -78,7 +78,7 @@ module _ (r : Request) (m t q : List ℕ) (passed : matrix_checks r m (length t)
   -- the number of its answer, the bytes of its T, and of its Q where that is wanted
   pub door_decomposition : decompose_bytes r m t q ≡ written_matrices r.wanted (settlement (library_of r m).answer (library_of r m).pair) q
   unfolding decompose_bytes decomposed_from ran_bytes
-  door_decomposition = rw passed (ap (λ s. written_matrices r.wanted s q) (sym library_ran))
+  door_decomposition = rw through (ap (λ s. written_matrices r.wanted s q) (sym library_ran))
 
   -- ---- acceptances
 

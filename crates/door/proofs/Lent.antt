@@ -40,7 +40,7 @@ module _ (r : Request) (m t t' q q' : List ℕ) (long_t : length t ≡ length t'
 
   answer_by : (c : Checked) → (decomposed_from c (ran_bytes r m q) t q).answer ≡ (decomposed_from c (ran_bytes r m q') t' q').answer
   unfolding decomposed_from ran_bytes written_matrices
-  answer_by passed = refl
+  answer_by (Ok u) = refl
   answer_by (Err x) = refl
 
   -- refused before the run, too

@@ -18,8 +18,7 @@ use Rattle.eigenvalues.proofs.KnownFinite.{real_finite, complex_finite}
 use Rattle.plain.specs.Plain.{plain_lengths, plain_begun, plain_finite_of}
 use Rattle.words.specs.Floats.{floats_of, bytes_of}
 use Rattle.words.proofs.Between.{floats_length}
-use Rattle.door.specs.declared.lists.ListEntry.{ListEntry}
-use Rattle.door.specs.declared.lists.ListEntry.TheVariants.{Real, Complex, Plain}
+use Rattle.door.specs.Lists.{ListEntry, Real, Complex, Plain}
 use Rattle.answer.specs.Answer.{checked_number}
 use Rattle.door.specs.Inner.{second_size, evaluated, evaluated_by, second_written}
 use Rattle.door.specs.Lists.{second_length, list_lengths, list_checks, complex_listed, real_bytes, complex_bytes, plain_from, plain_bytes, lists_bytes}
@@ -53,8 +52,7 @@ pub list_read : (e : ListEntry) (n : ℕ) (m re im re' im' : List ℕ) (x x' y y
     → list_checks e n m (length re) (length im) ≡ passed → length x ≡ n → y ≡ zeros (second_size e n)
     → evaluated c x' y' ≡ evaluated_by e n (floats_of m) x y → re' ≡ if_passed c (bytes_of x') re → im' ≡ second_written e c y' im → answer ≡ checked_number c
     → complex_listed answer re' im' ≡ lists_bytes e n m re im
-unfolding lists_bytes real_bytes complex_bytes plain_bytes plain_from evaluated_by real_read complex_read plain_finite_of plain_begun left_by list_lengths second_length
-    second_size second_written
+unfolding lists_bytes real_bytes complex_bytes plain_bytes plain_from real_read complex_read plain_finite_of plain_begun left_by list_lengths
     checked_number if_passed list_checks
 list_read Real n m re im re' im' x x' y y' c answer passed list zero run left_re left_im told =
     let f = list_fit Real n m (length re) (length im) passed in

@@ -17,10 +17,8 @@ use Rattle.refusal.proofs.PassedChecks.{length_passed, entries_passes, given_pas
 use Rattle.eigenvalues.specs.Readers.{readable, real_checks, complex_checks}
 use Rattle.words.specs.Floats.{floats_of}
 use Rattle.words.proofs.Between.{fresh_zeros, fresh_length}
-use Rattle.door.specs.declared.lists.ListEntry.{ListEntry}
-use Rattle.door.specs.declared.lists.ListEntry.TheVariants.{Real, Complex, Plain}
-use Rattle.door.specs.declared.lists.ListCall.{ListCall}
-use Rattle.door.specs.Inner.{ListUpTo, ListRooms, second_size}
+use Rattle.door.specs.Lists.{ListEntry, Real, Complex, Plain}
+use Rattle.door.specs.Inner.{ListRoomy, ListRooms, second_size}
 use Rattle.answer.specs.Answer.{refusal_number, checked_number}
 use Rattle.door.specs.Lists.{second_length, list_lengths, list_checks, complex_listed, real_bytes, complex_bytes, plain_from, plain_bytes, lists_bytes}
 
@@ -58,18 +56,17 @@ list_entries e n m rn jn h = entries_passes n (floats_of m) (given_passed _ n (f
 
 -- the complex reader's second list
 pub complex_second : (n jn : ℕ) → second_length Complex n jn ≡ passed → jn ≡ 8 * n
-unfolding second_length
 complex_second n jn h = length_passed _ jn _ h
 
 -- the rooms of a call, cut from arrays of zeros: for the matrix, the list, and what stands beside it
-pub fresh_rooms : {side second : ℕ} {c : ListCall} {m re im : List ℕ} (size long spare : ℕ) → ListUpTo side c m re im
-    → second ≡ second_size c.entry c.order → side * side ≤ size → side ≤ long → second ≤ spare
-    → ListRooms c m re im (take (c.order * c.order) (replicate size zero)) (take c.order (replicate long zero)) (take second (replicate spare zero))
-fresh_rooms size long spare f e large wide room = record {
+pub fresh_rooms : {square side double second : ℕ} {e : ListEntry} {n : ℕ} {m re im : List ℕ} → ListRoomy square side double e n m re im
+    → second ≡ second_size e n → second ≤ 2 * n
+    → ListRooms e n m re im (take (n * n) (replicate square zero)) (take n (replicate side zero)) (take second (replicate double zero))
+fresh_rooms {square} {side} {double} f e room = record {
   passed = f.passed;
-  matrix = sym (fresh_length _ size (omega arith));
-  list = sym (fresh_length _ long (omega arith));
-  second = fresh_zeros _ spare room ∙ ap zeros e;
+  matrix = sym (fresh_length _ square f.matrix);
+  list = sym (fresh_length _ side f.list);
+  second = fresh_zeros _ double (omega (arith, f.second)) ∙ ap zeros e;
 }
 
 -- ---- refused: all that is lent is as it was
@@ -77,7 +74,7 @@ fresh_rooms size long spare f e large wide room = record {
 pub kept : {r : Refusal} (e : ListEntry) (n : ℕ) (m re im : List ℕ) (answer : ℕ) → list_checks e n m (length re) (length im) ≡ Err r
     → answer ≡ refusal_number r
     → complex_listed answer re im ≡ lists_bytes e n m re im
-unfolding lists_bytes list_checks list_lengths second_length real_bytes real_checks complex_bytes complex_checks readable plain_bytes plain_from if_passed checked_number
+unfolding lists_bytes list_checks list_lengths real_bytes real_checks complex_bytes complex_checks readable plain_bytes plain_from if_passed checked_number
 kept Real n m re im answer refused told = rw (told, next_refused _ _ (next_refused _ _ refused))
 kept Complex n m re im answer refused told = rw (told, next_refused _ _ (next_refused _ _ refused))
 kept Plain n m re im answer refused told = rw (told, refused)

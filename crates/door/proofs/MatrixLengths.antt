@@ -14,7 +14,7 @@ use Rattle.decomposition.proofs.CheckedArguments.{all_right, sizes_fit}
 use Rattle.door.specs.declared.matrices.Request.{Request}
 use Rattle.words.proofs.Between.{fresh_zeros, fresh_length}
 use Rattle.door.specs.Matrices.{matrix_checks}
-use Rattle.door.specs.Inner.{MatrixUpTo, MatrixRooms}
+use Rattle.door.specs.Inner.{MatrixRoomy, MatrixRooms}
 
 pub record MatrixFit (r : Request) (mn tn qn : ℕ) : Type 0 where
   pub some : 1 ≤ r.order
@@ -34,13 +34,13 @@ matrix_fit r m tn qn h =
 pub run_fits_lem : {r : Request} {mn tn qn an wn : ℕ} → MatrixFit r mn tn qn → an ≡ r.order * r.order → wn ≡ 2 * r.order → run_fits r.order an wn ≡ true
 run_fits_lem {an = an} f size room = sizes_fit {mn = an} f.some f.order (record { alike = refl; square = size; room = room })
 
--- the rooms of a call, cut from arrays of zeros that have `size` numbers, and `spare` for the workspace
-pub fresh_rooms : {side : ℕ} {r : Request} {m t q : List ℕ} (size spare : ℕ) → MatrixUpTo side r m t q → side * side ≤ size → 2 * side ≤ spare
+-- the rooms of a call, cut from arrays of zeros
+pub fresh_rooms : {size spare : ℕ} {r : Request} {m t q : List ℕ} → MatrixRoomy size spare r m t q
     → let room = take (r.order * r.order) (replicate size zero) in
     MatrixRooms r m t q room room (take (2 * r.order) (replicate spare zero))
-fresh_rooms size spare f large wide = record {
+fresh_rooms {size} {spare} f = record {
   passed = f.passed;
-  matrix = sym (fresh_length _ size (omega arith));
-  for_q = fresh_zeros _ size (omega arith);
-  workspace = fresh_zeros _ spare (omega arith);
+  matrix = sym (fresh_length _ size f.square);
+  for_q = fresh_zeros _ size f.square;
+  workspace = fresh_zeros _ spare f.double;
 }

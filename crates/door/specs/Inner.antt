@@ -1,25 +1,28 @@
 -- What the contracts of private functions name: the rooms of a call, and an entry that gives lists, on the floats in
 -- between.
 use Rattle.refusal.specs.Refusal.{Checked, passed}
-use Rattle.std.specs.Prelude.{ℕ, ◌*◌, ◌≤◌, true, ◌≡◌, List, length, Float}
+use Rattle.std.specs.Prelude.{ℕ, ◌*◌, ◌^◌, ◌<◌, ◌≤◌, true, ◌≡◌, List, length, Float}
 use Rattle.matrix.specs.Vectors.{zeros}
 use Rattle.refusal.specs.Refusal.{if_passed}
 use Rattle.eigenvalues.specs.Readers.{real_finite_of, complex_finite_of}
 use Rattle.plain.specs.Plain.{plain_finite_of}
 use Rattle.words.specs.Floats.{floats_of, bytes_of}
 use Rattle.door.specs.declared.matrices.Request.{Request}
-use Rattle.door.specs.declared.lists.ListEntry.{ListEntry}
-use Rattle.door.specs.declared.lists.ListEntry.TheVariants.{Real, Complex, Plain}
-use Rattle.door.specs.declared.lists.ListCall.{ListCall}
 use Rattle.door.specs.Matrices.{matrices, matrix_checks, ran_floats, ran_bytes}
-use Rattle.door.specs.Lists.{list_checks}
+use Rattle.door.specs.Lists.{ListEntry, Real, Complex, Plain, list_checks}
 
 -- ---- the decomposition
 
--- the arguments have passed, and the order is at most `side`
-pub record MatrixUpTo (side : ℕ) (r : Request) (m t q : List ℕ) : Type 0 where
-  pub order : r.order ≤ side
-  pub square : r.order * r.order ≤ side * side
+-- a room of so many floats can be
+abbrev pub IsRoom : ℕ → Type 0
+IsRoom k = k * 8 < 2 ^ 63
+
+-- the arguments have passed, and the floats fit their rooms: T and Q `room` numbers each, the workspace `work`
+pub record MatrixRoomy (room work : ℕ) (r : Request) (m t q : List ℕ) : Type 0 where
+  pub square : r.order * r.order ≤ room
+  pub is_room : IsRoom room
+  pub double : 2 * r.order ≤ work
+  pub is_workspace : IsRoom work
   pub passed : matrix_checks r m (length t) (length q) ≡ passed
 
 -- the arguments have passed, and the floats have their rooms: a for the matrix, c for Q, w for the workspace
@@ -39,23 +42,28 @@ pub record MatricesDone (r : Request) (m q : List ℕ) (answer : ℕ) (t' q' : L
 -- ---- the entries that give lists
 
 -- the numbers that an entry needs beside its matrix and its list: imaginary parts, or a workspace
-unfoldable pub second_size : ListEntry → (n : ℕ) → ℕ
+abbrev pub second_size : ListEntry → (n : ℕ) → ℕ
 second_size Real n = n
 second_size Complex n = n
 second_size Plain n = 2 * n
 
--- the first checks have passed, and the order is at most `side`
-pub record ListUpTo (side : ℕ) (c : ListCall) (m re im : List ℕ) : Type 0 where
-  pub order : c.order ≤ side
-  pub square : c.order * c.order ≤ side * side
-  pub passed : list_checks c.entry c.order m (length re) (length im) ≡ passed
+-- the first checks have passed, and the floats fit their rooms: `square` numbers for the matrix, `side` for the list and
+-- `double` beside it
+pub record ListRoomy (square side double : ℕ) (e : ListEntry) (n : ℕ) (m re im : List ℕ) : Type 0 where
+  pub matrix : n * n ≤ square
+  pub for_matrix : IsRoom square
+  pub list : n ≤ side
+  pub for_list : IsRoom side
+  pub second : 2 * n ≤ double
+  pub for_second : IsRoom double
+  pub passed : list_checks e n m (length re) (length im) ≡ passed
 
 -- the first checks have passed, and the floats have their rooms: a for the matrix, x for the list, y beside it
-pub record ListRooms (c : ListCall) (m re im : List ℕ) (a x y : List Float) : Type 0 where
-  pub passed : list_checks c.entry c.order m (length re) (length im) ≡ passed
-  pub matrix : length a ≡ c.order * c.order
-  pub list : length x ≡ c.order
-  pub second : y ≡ zeros (second_size c.entry c.order)
+pub record ListRooms (e : ListEntry) (n : ℕ) (m re im : List ℕ) (a x y : List Float) : Type 0 where
+  pub passed : list_checks e n m (length re) (length im) ≡ passed
+  pub matrix : length a ≡ n * n
+  pub list : length x ≡ n
+  pub second : y ≡ zeros (second_size e n)
 
 -- what is answered, the list, and that second room
 pub record Evaluated : Type 0 where
@@ -66,13 +74,13 @@ pub record Evaluated : Type 0 where
 abbrev pub evaluated : Checked → (x y : List Float) → Evaluated
 evaluated answer x y = record { answer = answer; x = x; y = y }
 
-unfoldable pub evaluated_by : ListEntry → (n : ℕ) → (a x y : List Float) → Evaluated
+abbrev pub evaluated_by : ListEntry → (n : ℕ) → (a x y : List Float) → Evaluated
 evaluated_by Real n a x y = let r = real_finite_of n a x in evaluated r.answer r.values y
 evaluated_by Complex n a x y = let r = complex_finite_of n a x y in evaluated r.answer r.re r.im
 evaluated_by Plain n a x y = let r = plain_finite_of n a x y in evaluated r.answer r.values r.work
 
 -- the second list's bytes: the complex reader's alone
-unfoldable pub second_written : ListEntry → Checked → (y : List Float) → (im : List ℕ) → List ℕ
+abbrev pub second_written : ListEntry → Checked → (y : List Float) → (im : List ℕ) → List ℕ
 second_written Real c y im = im
 second_written Complex c y im = if_passed c (bytes_of y) im
 second_written Plain c y im = im

@@ -12,13 +12,17 @@ use Rattle.eigenvalues.specs.Blocks.{eigenvalue_at}
 use Rattle.eigenvalues.specs.Readers.{real_checks, diagonal, complex_checks, Read}
 use Rattle.plain.specs.Plain.{plain_read}
 use Rattle.words.specs.Floats.{floats_of, bytes_of}
-use Rattle.door.specs.declared.lists.ListEntry.{ListEntry}
-use Rattle.door.specs.declared.lists.ListEntry.TheVariants.{Real, Complex, Plain}
 use Rattle.answer.specs.Answer.{refusal_number, checked_number}
+
+-- the two readers of a T, and the plain entry of a matrix
+pub data ListEntry : Type 0 where
+  Real : ListEntry
+  Complex : ListEntry
+  Plain : ListEntry
 
 -- ---- lengths: eight bytes for each number, and a second list for the complex reader alone
 
-unfoldable pub second_length : ListEntry → (n jn : ℕ) → Checked
+abbrev pub second_length : ListEntry → (n jn : ℕ) → Checked
 second_length Real n jn = passed
 second_length Complex n jn = length_check WrongLength jn (8 * n)
 second_length Plain n jn = passed

@@ -6,6 +6,7 @@ ghost use Rattle.words.specs.Floats.{floats_of};
 use refusal::Refusal;
 
 // An entry is NaN or infinite: 6.
+#[tactic(auto, using(refusal::proofs::ChecksInTurn::in_turn), unfolding(refusal::specs::Checks::entry_checks))]
 pub(crate) fn check_entries(m: &[u8], n: usize) -> Result<(), Refusal>
     ensures { result ≡ entry_checks n (floats_of m.now) }
 {

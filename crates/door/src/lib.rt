@@ -15,7 +15,7 @@ ghost use Rattle.door.specs.Matrices.{request, matrices, decompose_bytes, Accept
 ghost use Rattle.door.specs.Lists.{listed, real_bytes, complex_listed, complex_bytes, plain_bytes};
 
 use answer::refusal_number;
-use lists::{ListCall, ListEntry};
+use lists::{ComplexReader, PlainEntry, RealReader};
 use matrices::Request;
 use refusal::Refusal;
 
@@ -65,11 +65,7 @@ pub extern "C" fn manulsek_eigenvalues(n: usize, t: &[u8], values: &mut [u8]) ->
     ensures { listed result values.new ≡ real_bytes n t.now values.old }
 {
     let mut none = [0u8; 0];
-    let call = ListCall {
-        entry: ListEntry::Real,
-        order: n,
-    };
-    lists::call(call, t, values, &mut none)
+    lists::call::<RealReader>(n, t, values, &mut none)
 }
 
 // The eigenvalues of a T, by their real and imaginary parts: 0, or a refusal.
@@ -83,11 +79,7 @@ pub extern "C" fn manulsek_complex_eigenvalues(
     ensures { complex_listed result re.new im.new
         ≡ complex_bytes n t.now re.old im.old }
 {
-    let call = ListCall {
-        entry: ListEntry::Complex,
-        order: n,
-    };
-    lists::call(call, t, re, im)
+    lists::call::<ComplexReader>(n, t, re, im)
 }
 
 // The eigenvalues of a matrix, if all are real, with the tolerance 2^-52 and the budget 10,000: 0, or a
@@ -97,9 +89,5 @@ pub extern "C" fn manulsek_plain_eigenvalues(n: usize, m: &[u8], values: &mut [u
     ensures { listed result values.new ≡ plain_bytes n m.now values.old }
 {
     let mut none = [0u8; 0];
-    let call = ListCall {
-        entry: ListEntry::Plain,
-        order: n,
-    };
-    lists::call(call, m, values, &mut none)
+    lists::call::<PlainEntry>(n, m, values, &mut none)
 }

@@ -1,5 +1,5 @@
 // The entries that give matrices, over bytes: checks, the floats, the run, and the bytes of T and Q. Their rooms
-// are a ladder of four sizes, since the language has no array whose length is known at run time only.
+// are arrays of four sizes, since the language has no array whose length is known at run time only.
 ghost use Rattle.std.specs.Prelude.{◌≡◌, true, cond, not, ◌*◌, length};
 ghost use Rattle.std.specs.Float.{binary64};
 ghost use Rattle.std.specs.Float.Ieee.{of_bits};
@@ -9,7 +9,7 @@ ghost use Rattle.refusal.specs.Checks.{entry_checks};
 ghost use Rattle.decomposition.specs.Checks.{tolerance_fits, budget_fits};
 ghost use Rattle.words.specs.Floats.{floats_of, bytes_of};
 ghost use Rattle.door.specs.Matrices.{asked_by, matrix_checks};
-ghost use Rattle.door.specs.Inner.{MatrixUpTo, MatrixRooms, MatricesDone};
+ghost use Rattle.door.specs.Inner.{MatrixRoomy, MatrixRooms, MatricesDone};
 
 use crate::checks::check_entries;
 use answer::decomposed_number;
@@ -26,13 +26,15 @@ pub struct Request {
 }
 
 // The same as the run takes it.
-fn asked_by(r: Request) -> Setting
-    ensures { result ≡ asked_by r }
-{
-    Setting {
-        order: r.order,
-        wanted: r.wanted,
-        tolerance: scalar::of_bits(r.tolerance),
+impl From<Request> for Setting {
+    ghost from_gives = { λ r s. s ≡ asked_by r };
+
+    fn from(r: Request) -> Setting {
+        Setting {
+            order: r.order,
+            wanted: r.wanted,
+            tolerance: scalar::of_bits(r.tolerance),
+        }
     }
 }
 
@@ -48,6 +50,7 @@ fn tolerance_fits(tolerance: u64) -> bool
 }
 
 // Behind the lengths: the tolerance, the budget, the entries.
+#[tactic(auto, using(refusal::proofs::ChecksInTurn::in_turn))]
 fn check_values(m: &[u8], r: Request) -> Result<(), Refusal>
     ensures { result ≡ (refuse (not (tolerance_fits (of_bits binary64 r.tolerance))) ToleranceOutside
         next refuse (not (budget_fits r.budget)) BudgetOutside
@@ -63,6 +66,11 @@ fn check_values(m: &[u8], r: Request) -> Result<(), Refusal>
 }
 
 // The arguments, in the order of document 01's table; tn and qn are the lengths of what is lent, in bytes.
+#[tactic(
+    auto,
+    using(refusal::proofs::ChecksInTurn::in_turn),
+    unfolding(crate::specs::Matrices::matrix_checks, decomposition::specs::Checks::argument_checks)
+)]
 pub(crate) fn check_arguments(m: &[u8], r: Request, tn: usize, qn: usize) -> Result<(), Refusal>
     ensures { result ≡ matrix_checks r m.now tn qn }
 {
@@ -76,7 +84,7 @@ pub(crate) fn check_arguments(m: &[u8], r: Request, tn: usize, qn: usize) -> Res
 fn write_q(wanted: bool, c: &[f64], q: &mut [u8])
     requires { wanted ≡ true → length q.old ≡ 8 * length c.now }
     ensures q_after { q.new ≡ cond wanted (bytes_of c.now) q.old }
-    ensures q_after_2 { wanted ≡ true → floats_of q.new ≡ c.now }
+    ensures q_read_back { wanted ≡ true → floats_of q.new ≡ c.now }
 {
     if wanted {
         words::encode(c, q);
@@ -96,7 +104,7 @@ fn on_floats(
     requires { MatrixRooms r m.now t.old q.old a.old c.old work.old }
     ensures { MatricesDone r m.now q.old result t.new q.new }
 {
-    let asked = asked_by(r);
+    let asked = Setting::from(r);
     words::decode(m, a);
     let ran = schur::do_decompose(a, c, asked, r.budget, work);
     let answer = decomposition::decide(ran, a, c, asked);
@@ -105,103 +113,42 @@ fn on_floats(
     decomposed_number(answer)
 }
 
-// Small orders do not pay for clearing a large room.
-fn small(r: Request, m: &[u8], t: &mut [u8], q: &mut [u8]) -> u64
-    requires { MatrixUpTo 8 r m.now t.old q.old }
+// The floats' rooms: ROOM numbers for T and for Q each, WORK for the workspace. Each size is kept apart, in a frame of
+// its own: in line, every call would touch each page of the largest.
+#[inline(never)]
+#[tactic(auto, using(crate::proofs::MatrixLengths::fresh_rooms))]
+fn in_rooms<const ROOM: usize, const WORK: usize>(
+    r: Request,
+    m: &[u8],
+    t: &mut [u8],
+    q: &mut [u8],
+) -> u64
+    requires { MatrixRoomy ROOM WORK r m.now t.old q.old }
     ensures { MatricesDone r m.now q.old result t.new q.new }
 {
     let n = r.order;
     let k = n * n;
-    let mut a = [0.0f64; 64];
-    let mut c = [0.0f64; 64];
-    let mut w = [0.0f64; 16];
+    let mut a = [0.0f64; ROOM];
+    let mut c = [0.0f64; ROOM];
+    let mut w = [0.0f64; WORK];
     on_floats(r, m, t, q, &mut a[..k], &mut c[..k], &mut w[..2 * n])
 }
 
-// From here on a room is 72 numbers longer than it need be, so that T and Q do not lie a whole number of pages
-// apart, which took longer (docs/SPEED.md).
-fn modest(r: Request, m: &[u8], t: &mut [u8], q: &mut [u8]) -> u64
-    requires { MatrixUpTo 16 r m.now t.old q.old }
-    ensures { MatricesDone r m.now q.old result t.new q.new }
-{
-    let n = r.order;
-    let k = n * n;
-    let mut a = [0.0f64; 328];
-    let mut c = [0.0f64; 328];
-    let mut w = [0.0f64; 32];
-    on_floats(r, m, t, q, &mut a[..k], &mut c[..k], &mut w[..2 * n])
-}
-
-fn middle(r: Request, m: &[u8], t: &mut [u8], q: &mut [u8]) -> u64
-    requires { MatrixUpTo 32 r m.now t.old q.old }
-    ensures { MatricesDone r m.now q.old result t.new q.new }
-{
-    let n = r.order;
-    let k = n * n;
-    let mut a = [0.0f64; 1096];
-    let mut c = [0.0f64; 1096];
-    let mut w = [0.0f64; 64];
-    on_floats(r, m, t, q, &mut a[..k], &mut c[..k], &mut w[..2 * n])
-}
-
-fn large(r: Request, m: &[u8], t: &mut [u8], q: &mut [u8]) -> u64
-    requires { MatrixUpTo 64 r m.now t.old q.old }
-    ensures { MatricesDone r m.now q.old result t.new q.new }
-{
-    let n = r.order;
-    let k = n * n;
-    let mut a = [0.0f64; 4168];
-    let mut c = [0.0f64; 4168];
-    let mut w = [0.0f64; 128];
-    on_floats(r, m, t, q, &mut a[..k], &mut c[..k], &mut w[..2 * n])
-}
-
-// The arguments have passed. For orders above 8.
-fn larger(r: Request, m: &[u8], t: &mut [u8], q: &mut [u8]) -> u64
-    requires { matrix_checks r m.now (length t.old) (length q.old) ≡ passed }
-    ensures { MatricesDone r m.now q.old result t.new q.new }
-{
-    if r.order <= 16 {
-        return modest(r, m, t, q);
-    }
-    if r.order <= 32 {
-        return middle(r, m, t, q);
-    }
-    large(r, m, t, q)
-}
-
-// The arguments have passed.
+// The arguments have passed. Small orders do not pay for clearing a large room.
 pub(crate) fn run(r: Request, m: &[u8], t: &mut [u8], q: &mut [u8]) -> u64
     requires { matrix_checks r m.now (length t.old) (length q.old) ≡ passed }
     ensures { MatricesDone r m.now q.old result t.new q.new }
 {
     if r.order <= 8 {
-        return small(r, m, t, q);
+        return in_rooms::<64, 16>(r, m, t, q);
     }
-    // Called in two places that differ, so that the compiler keeps it apart: in line, its rooms would lie in one
-    // frame with the small one, and every call would touch each page of it.
-    if r.wanted {
-        return larger(
-            Request {
-                order: r.order,
-                wanted: true,
-                tolerance: r.tolerance,
-                budget: r.budget,
-            },
-            m,
-            t,
-            q,
-        );
+    // From here on a room is 72 numbers longer than it need be, so that T and Q do not lie a whole number of pages
+    // apart, which took longer (docs/SPEED.md).
+    if r.order <= 16 {
+        return in_rooms::<328, 32>(r, m, t, q);
     }
-    larger(
-        Request {
-            order: r.order,
-            wanted: false,
-            tolerance: r.tolerance,
-            budget: r.budget,
-        },
-        m,
-        t,
-        q,
-    )
+    if r.order <= 32 {
+        return in_rooms::<1096, 64>(r, m, t, q);
+    }
+    in_rooms::<4168, 128>(r, m, t, q)
 }

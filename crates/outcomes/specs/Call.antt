@@ -2,7 +2,7 @@
 -- Every f64 is its pattern.
 use Rattle.refusal.specs.Refusal.{Checked}
 use Rattle.decomposition.specs.Decomposition.{Decomposed}
-use Rattle.std.specs.Prelude.{ℕ, ◌*◌, true, List, [], ◌∷◌}
+use Rattle.std.specs.Prelude.{ℕ, ◌*◌, true, List, [], ◌∷◌, Ok, Err}
 use Rattle.std.specs.Float.Ieee.{of_bits}
 use Rattle.std.specs.Float.{binary64}
 use Rattle.loops.specs.Times.{times}
@@ -10,9 +10,7 @@ use Rattle.matrix.specs.Known.{numbers, shown}
 use Rattle.pass.specs.Setting.{setting}
 use Rattle.pass.specs.Pair.{pair}
 use Rattle.refusal.specs.declared.refusal.Refusal.{Refusal}
-use Rattle.refusal.specs.declared.refusal.Checked.TheVariants as checked
 use Rattle.refusal.specs.Refusal.{told_of}
-use Rattle.decomposition.specs.declared.Decomposed.TheVariants as decomposed
 use Rattle.decomposition.specs.Decomposition.{decomposition_of}
 use Rattle.eigenvalues.specs.Readers.{real_read, complex_read}
 
@@ -58,12 +56,12 @@ unfoldable pub refused : Refusal → Says
 refused r = let x = told_of r in says_refused x.number x.row x.col
 
 unfoldable pub decomposes : Decomposed → Says
-decomposes (decomposed.Accepted passes) = says_passes passes
-decomposes (decomposed.Declined r) = refused r
+decomposes (Ok passes) = says_passes passes
+decomposes (Err r) = refused r
 
 unfoldable pub reads : Checked → Says
-reads checked.Passed = says_read
-reads (checked.Refused r) = refused r
+reads (Ok u) = says_read
+reads (Err r) = refused r
 
 unfoldable pub answer_of : Call → Answer
 answer_of (call_decompose n tolerance budget m) =

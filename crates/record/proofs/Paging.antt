@@ -1,14 +1,16 @@
 -- Text put on a page, piece by piece. Assumes nothing.
 use Prim.Native.Nat.{ℕ, suc, ◌+◌, ◌<◌, ◌≤◌}
-use mathlib.Core.Path.{◌≡◌, sym, ap, subst, ◌∙◌}
+use mathlib.Core.Path.{◌≡◌, refl, sym, ap, subst, ◌∙◌}
 use mathlib.Core.List.{List, [], ◌∷◌, ◌++◌}
 use native.Mathlib.Nat.{add-zero, zero-add}
 use native.Mathlib.Numerals.{add-one}
 use native.Mathlib.Omega.{arith}
 use borrow.Author.Tests.{le-leb, lt-leb}
-use lib.ListN.{length, get_or, take, drop, set, length-append}
-use lib.Seq.{length-take-le, take-suc, sets, sets-eq}
+use lib.ListN.{length, get_or, take, drop, set, length-append, length-set}
+use lib.Seq.{take-suc, sets, sets-eq}
+use Rattle.record.specs.declared.page.Page.{Page as LentPage}
 use Rattle.record.specs.Page.{Page, page, printed, more, Put}
+use Rattle.record.specs.Lent.{on, Puts}
 
 sets-append : (l : List ℕ) (i : ℕ) (s t : List ℕ) → sets l i (s ++ t) ≡ sets (sets l i s) (i + length s) t
 sets-append l i [] t = rw add-zero
@@ -21,35 +23,56 @@ more-append s t p =
     let e : p.at + length (s ++ t) ≡ p.at + length s + length t = simp length-append (omega arith) in
     rw (e, sets-append p.text p.at s t)
 
--- one byte more of s
-pub sets_more : (l : List ℕ) (at : ℕ) (s : List ℕ) (i : ℕ) → i < length s → set (sets l at (take i s)) (at + i) (get_or s i 0) ≡ sets l at (take (i + 1) s)
-sets_more l at s i h =
-    let e : length (take i s) ≡ i = length-take-le i s (omega arith) in
-    rw (add-one, take-suc s i 0 h, sets-append l at (take i s) (get_or s i 0 ∷ []), e)
-
 -- ---- by what calls have left
 
 -- nothing
-pub none_put : (p : Page) → Put [] 0 p p
+none_put : (p : Page) → Put [] 0 p p
 unfolding more
 none_put p = record { text = rw add-zero; end = omega arith }
 
--- the same text in other words, and a wider bound
-pub put_as : {s t : List ℕ} {most : ℕ} {p q : Page} → s ≡ t → Put s most p q → Put t most p q
-put_as {most = most} {p} {q} e = subst (λ s. Put s most p q) e
-
-pub put_within : {s : List ℕ} {k most : ℕ} {p q : Page} → k ≤ most → Put s k p q → Put s most p q
+-- a wider bound
+put_within : {s : List ℕ} {k most : ℕ} {p q : Page} → k ≤ most → Put s k p q → Put s most p q
 put_within h x = record { text = x.text; end = omega arith }
 
 -- two pieces
-pub both_put : {a b : List ℕ} {j k : ℕ} {p q r : Page} → Put a j p q → Put b k q r → Put (a ++ b) (j + k) p r
+both_put : {a b : List ℕ} {j k : ℕ} {p q r : Page} → Put a j p q → Put b k q r → Put (a ++ b) (j + k) p r
 both_put {a} {b} {p = p} x y = record { text = y.text ∙ ap (more b) x.text ∙ sym (more-append a b p); end = omega arith }
 
+-- ---- on one lent slice
+
+pub none_puts : (p : LentPage) → Puts [] 0 p p
+none_puts p = record { same_slice = refl; size = refl; put = none_put (on p) }
+
+-- one byte
+pub byte_puts : {p q : LentPage} (b : ℕ) → q.text.ghost_name ≡ p.text.ghost_name → q.text.now ≡ set p.text.now p.at b → q.at ≡ p.at + 1
+    → Puts (b ∷ []) 1 p q
+unfolding more
+byte_puts {p} {q} b same text at = record {
+  same_slice = same;
+  size = ap length text ∙ simp length-set;
+  put = record { text = rw (text, at) refl; end = omega arith };
+}
+
+-- the same text in other words, and a wider bound
+pub puts_as : {s t : List ℕ} {most : ℕ} {p q : LentPage} → s ≡ t → Puts s most p q → Puts t most p q
+puts_as {most = most} {p} {q} e = subst (λ s. Puts s most p q) e
+
+pub puts_within : {s : List ℕ} {k most : ℕ} {p q : LentPage} → k ≤ most → Puts s k p q → Puts s most p q
+puts_within h x = record { same_slice = x.same_slice; size = x.size; put = put_within h x.put }
+
+-- two pieces
+pub both_puts : {a b : List ℕ} {j k : ℕ} {p q r : LentPage} → Puts a j p q → Puts b k q r → Puts (a ++ b) (j + k) p r
+both_puts x y = record { same_slice = y.same_slice ∙ x.same_slice; size = y.size ∙ x.size; put = both_put x.put y.put }
+
 -- the five of a line
-pub line_put : {a b c d e : List ℕ} {i j k l m most : ℕ} {p q r s t u : Page} → Put a i p q → Put b j q r → Put c k r s → Put d l s t → Put e m t u
+pub line_puts : {a b c d e : List ℕ} {i j k l m most : ℕ} {p q r s t u : LentPage} → Puts a i p q → Puts b j q r → Puts c k r s → Puts d l s t → Puts e m t u
     → i + j + k + l + m ≤ most
-    → Put (a ++ b ++ c ++ d ++ e) most p u
-line_put v w x y z h = put_within h (both_put (both_put (both_put (both_put v w) x) y) z)
+    → Puts (a ++ b ++ c ++ d ++ e) most p u
+line_puts v w x y z h = puts_within h (both_puts (both_puts (both_puts (both_puts v w) x) y) z)
+
+-- i of the bytes of s, and one more
+pub bytes_puts : (s : List ℕ) {i : ℕ} {p q r : LentPage} → Puts (take i s) i p q → i < length s → Puts (get_or s i 0 ∷ []) 1 q r → Puts (take (i + 1) s) (i + 1) p r
+bytes_puts s {i} x h y = puts_as (rw (add-one, take-suc s i 0 h)) (both_puts x y)
 
 -- ---- the whole text
 

@@ -1,44 +1,64 @@
-// Text put into a slice of bytes, from a place on. Each function answers the place behind what it has put.
-ghost use Rattle.std.specs.Prelude.{[], ◌∷◌, ◌+◌, ◌<◌, ◌≤◌, length};
+// Text put on a page.
+ghost use Rattle.std.specs.Prelude.{◌≡◌, [], ◌∷◌, ◌+◌, length};
 ghost use Rattle.record.specs.Text.{decimal, hexadecimal};
-ghost use Rattle.record.specs.Page.{page, Put};
+ghost use Rattle.record.specs.Page.{page};
+ghost use Rattle.record.specs.Lent.{on, HasRoom, Puts};
 
-pub(crate) fn put_byte(text: &mut [u8], at: usize, b: u8) -> usize
-    requires { at < length text.old }
-    ensures { Put (b ∷ []) 1 (page at text.old) (page result text.new) }
-{
-    text[at] = b;
-    at + 1
+// A lent slice of bytes with text at its front. Each method puts more behind it.
+#[derive(Drop)]
+pub(crate) struct Page<'a> {
+    text: &'a mut [u8],
+    // the place behind the text
+    at: usize,
 }
 
-pub(crate) fn put(text: &mut [u8], at: usize, s: &[u8]) -> usize
-    requires { at + length s.now ≤ length text.old }
-    ensures { Put s.now (length s.now)
-        (page at text.old)
-        (page result text.new) }
-{
-    for i in 0..s.len() {
-        text[at + i] = s[i];
+impl<'a> Page<'a> {
+    pub(crate) fn new(text: &'a mut [u8]) -> Page<'a>
+        ensures same_slice { result.text.ghost_name ≡ text.entry.ghost_name }
+        ensures empty { on result ≡ page 0 text.old }
+    {
+        Page { text, at: 0 }
     }
-    at + s.len()
-}
 
-pub(crate) fn put_decimal(text: &mut [u8], at: usize, n: u64) -> usize
-    requires { at + length (decimal n) ≤ length text.old }
-    ensures { Put (decimal n) (length (decimal n))
-        (page at text.old)
-        (page result text.new) }
-{
-    let mut digits = [0u8; 20];
-    let k = io::decimal(n, &mut digits);
-    put(text, at, &digits[..k])
-}
+    // How long the text is.
+    pub(crate) fn len(&self) -> usize
+        ensures { result ≡ self.now.at }
+    {
+        self.at
+    }
 
-pub(crate) fn put_hexadecimal(text: &mut [u8], at: usize, w: u64) -> usize
-    requires { at + 16 ≤ length text.old }
-    ensures { Put (hexadecimal w) 16 (page at text.old) (page result text.new) }
-{
-    let mut digits = [0u8; 16];
-    let k = io::hex(w, 16, &mut digits);
-    put(text, at, &digits[..k])
+    pub(crate) fn byte(&mut self, b: u8)
+        requires { HasRoom 1 self.old }
+        ensures { Puts (b ∷ []) 1 self.old self.new }
+    {
+        self.text[self.at] = b;
+        self.at += 1;
+    }
+
+    pub(crate) fn bytes(&mut self, s: &[u8])
+        requires { HasRoom (length s.now) self.old }
+        ensures { Puts s.now (length s.now) self.old self.new }
+    {
+        for b in s {
+            self.byte(*b);
+        }
+    }
+
+    pub(crate) fn decimal(&mut self, n: u64)
+        requires { HasRoom (length (decimal n)) self.old }
+        ensures { Puts (decimal n) (length (decimal n)) self.old self.new }
+    {
+        let mut digits = [0u8; 20];
+        let k = io::decimal(n, &mut digits);
+        self.bytes(&digits[..k]);
+    }
+
+    pub(crate) fn hexadecimal(&mut self, w: u64)
+        requires { HasRoom 16 self.old }
+        ensures { Puts (hexadecimal w) 16 self.old self.new }
+    {
+        let mut digits = [0u8; 16];
+        let k = io::hex(w, 16, &mut digits);
+        self.bytes(&digits[..k]);
+    }
 }

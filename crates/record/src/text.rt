@@ -4,75 +4,14 @@ ghost use Rattle.io.specs.Counts.{IsPrefixLen};
 ghost use Rattle.pass.specs.Pair.{pair};
 ghost use Rattle.words.specs.Floats.{floats_of};
 ghost use Rattle.decomposition.specs.Decomposition.{outcome};
-ghost use Rattle.record.specs.Page.{page, printed, Put};
-ghost use Rattle.record.specs.Lent.{EigenvaluesLent, PairLent, RoomsLent, RecordLent};
+ghost use Rattle.record.specs.Page.{page, printed};
+ghost use Rattle.record.specs.Lent.{HasRoom, Puts, EigenvaluesLent, PairLent, RoomsLent, RecordLent};
 ghost use Rattle.record.specs.Answer.{eigenvalues_text, read_text, decomposed_text, decomposed, matrix_text, text_of};
 
-use crate::lines::{put_eigenvalues, put_matrix, put_not_read, put_passes, put_refused};
+use crate::page::Page;
 use header::Header;
 use pass::Setting;
 use refusal::Refusal;
-
-// What the complex reader has answered.
-fn put_answer(
-    text: &mut [u8],
-    at: usize,
-    n: usize,
-    checked: Result<(), Refusal>,
-    re: &[f64],
-    im: &[f64],
-) -> usize
-    requires { EigenvaluesLent n 1331 (page at text.old) re.now im.now }
-    ensures { Put (eigenvalues_text n checked re.now im.now) 1331
-        (page at text.old)
-        (page result text.new) }
-{
-    match checked {
-        Ok(()) => put_eigenvalues(text, at, n, re, im),
-        Err(r) => put_not_read(text, at, r),
-    }
-}
-
-// The eigenvalues of T. Their lists begin as zeros, with room for order 32: what is needed is cut off.
-fn put_read(text: &mut [u8], at: usize, n: usize, t: &[f64]) -> usize
-    requires { (at + 1331 ≤ length text.old) × (n ≤ 32) }
-    ensures { Put (read_text n t.now) 1331
-        (page at text.old)
-        (page result text.new) }
-{
-    let mut re_room = [0.0f64; 32];
-    let mut im_room = [0.0f64; 32];
-    let re = &mut re_room[..n];
-    let im = &mut im_room[..n];
-    let checked = eigenvalues::complex_eigenvalues(t, n, re, im);
-    put_answer(text, at, n, checked, re, im)
-}
-
-// An accepted decomposition.
-fn put_accepted(text: &mut [u8], n: usize, passes: u64, t: &[f64], q: &[f64]) -> usize
-    requires { PairLent n text.old (pair t.now q.now) }
-    ensures { Put (decomposed_text n (Ok passes) (pair t.now q.now)) 65536
-        (page 0 text.old)
-        (page result text.new) }
-{
-    let a = put_passes(text, 0, n, passes);
-    let b = put_matrix(text, a, b't', n, t);
-    let c = put_matrix(text, b, b'q', n, q);
-    put_read(text, c, n, t)
-}
-
-// What the decomposition has answered, and left as T and Q.
-fn put_decomposed(text: &mut [u8], n: usize, answer: Result<u64, Refusal>, t: &[f64], q: &[f64]) -> usize
-    requires { PairLent n text.old (pair t.now q.now) }
-    ensures { Put (decomposed_text n answer (pair t.now q.now)) 65536
-        (page 0 text.old)
-        (page result text.new) }
-{
-    match answer {
-        Ok(passes) => put_accepted(text, n, passes, t, q),
-        Err(r) => put_refused(text, 0, r),
-    }
-}
 
 // The entries become floats in t, and the matrix is decomposed there.
 fn decompose(
@@ -95,29 +34,85 @@ fn decompose(
     decomposition::try_new_in_place(t, q, asked, h.budget, work)
 }
 
-// A record without fault. T, Q and the workspace too begin as zeros, with room for order 32.
-fn put_passed(text: &mut [u8], h: Header, entries: &[u8]) -> usize
-    requires { RecordLent h.order text.old entries.now }
-    ensures { Put (matrix_text h (floats_of entries.now)) 65536
-        (page 0 text.old)
-        (page result text.new) }
-{
-    let n = h.order;
-    let k = n * n;
-    let mut t_room = [0.0f64; 1024];
-    let mut q_room = [0.0f64; 1024];
-    let mut work_room = [0.0f64; 64];
-    let t = &mut t_room[..k];
-    let q = &mut q_room[..k];
-    let work = &mut work_room[..2 * n];
-    let answer = decompose(entries, h, t, q, work);
-    put_decomposed(text, n, answer, t, q)
+impl Page<'_> {
+    // What the complex reader has answered.
+    fn answer(&mut self, n: usize, checked: Result<(), Refusal>, re: &[f64], im: &[f64])
+        requires { EigenvaluesLent n 1331 self.old re.now im.now }
+        ensures { Puts (eigenvalues_text n checked re.now im.now) 1331 self.old self.new }
+    {
+        match checked {
+            Ok(()) => self.eigenvalues(n, re, im),
+            Err(r) => self.not_read(r),
+        }
+    }
+
+    // The eigenvalues of T. Their lists begin as zeros, with room for order 32: what is needed is cut off.
+    fn read(&mut self, n: usize, t: &[f64])
+        requires { HasRoom 1331 self.old × (n ≤ 32) }
+        ensures { Puts (read_text n t.now) 1331 self.old self.new }
+    {
+        let mut re_room = [0.0f64; 32];
+        let mut im_room = [0.0f64; 32];
+        let re = &mut re_room[..n];
+        let im = &mut im_room[..n];
+        let checked = eigenvalues::complex_eigenvalues(t, n, re, im);
+        self.answer(n, checked, re, im);
+    }
+
+    // An accepted decomposition.
+    fn accepted(&mut self, n: usize, passes: u64, t: &[f64], q: &[f64])
+        requires { PairLent n self.old (pair t.now q.now) }
+        ensures { Puts (decomposed_text n (Ok passes) (pair t.now q.now)) 65536 self.old self.new }
+    {
+        self.passes(n, passes);
+        self.matrix(b't', n, t);
+        self.matrix(b'q', n, q);
+        self.read(n, t);
+    }
+
+    // What the decomposition has answered, and left as T and Q.
+    fn decomposed(&mut self, n: usize, answer: Result<u64, Refusal>, t: &[f64], q: &[f64])
+        requires { PairLent n self.old (pair t.now q.now) }
+        ensures { Puts (decomposed_text n answer (pair t.now q.now)) 65536 self.old self.new }
+    {
+        match answer {
+            Ok(passes) => self.accepted(n, passes, t, q),
+            Err(r) => self.refused(r),
+        }
+    }
+
+    // A record without fault. T, Q and the workspace too begin as zeros, with room for order 32.
+    fn passed(&mut self, h: Header, entries: &[u8])
+        requires { RecordLent h.order self.old entries.now }
+        ensures { Puts (matrix_text h (floats_of entries.now)) 65536 self.old self.new }
+    {
+        let n = h.order;
+        let k = n * n;
+        let mut t_room = [0.0f64; 1024];
+        let mut q_room = [0.0f64; 1024];
+        let mut work_room = [0.0f64; 64];
+        let t = &mut t_room[..k];
+        let q = &mut q_room[..k];
+        let work = &mut work_room[..2 * n];
+        let answer = decompose(entries, h, t, q, work);
+        self.decomposed(n, answer, t, q);
+    }
+
+    fn input(&mut self, input: &[u8])
+        requires { HasRoom 65536 self.old }
+        ensures { Puts (text_of input.now) 65536 self.old self.new }
+    {
+        match header::examine(input) {
+            Err(r) => self.refused(r),
+            Ok(h) => self.passed(h, &input[20..]),
+        }
+    }
 }
 
 // Room for an input: one byte more than the longest record, so that a longer input is seen to be longer.
 pub fn room() -> [u8; 8213]
-    ensures value { result ≡ replicate 8213 0 }
-    ensures value_2 { 8213 ≡ length result }
+    ensures zeros { result ≡ replicate 8213 0 }
+    ensures size { 8213 ≡ length result }
 {
     [0; 8213]
 }
@@ -131,8 +126,7 @@ pub fn answer(input: &[u8], text: &mut [u8]) -> usize
     if text.len() < 65536 {
         return 0;
     }
-    match header::examine(input) {
-        Err(r) => put_refused(text, 0, r),
-        Ok(h) => put_passed(text, h, &input[20..]),
-    }
+    let mut page = Page::new(text);
+    page.input(input);
+    page.len()
 }

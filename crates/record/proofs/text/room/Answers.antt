@@ -5,4 +5,4 @@ use lib.ListN.{length-replicate}
 use Rattle.record.proofs.text.room.Goals as goal
 
 pub returns : goal.returns
-returns c = record { value = refl; value_2 = sym (length-replicate {A = ℕ} 8213 0) }
+returns c = record { zeros = refl; size = sym (length-replicate {A = ℕ} 8213 0) }

@@ -1,7 +1,0 @@
--- `record::lines::put_pattern` meets its contract. Assumes nothing.
-use Rattle.record.proofs.Paging.{both_put}
-use Rattle.record.proofs.lines.put_pattern.Goals as goal
-
-pub returns : goal.returns
-returns c =
-    both_put c.put_byte-behind.ensures c.put_hexadecimal.ensures
