@@ -140,14 +140,22 @@ fn matrix_moved(rt: &impl Print, name: &str, given: &str) -> Option<()> {
         "reflect3" => reflection::reflect_by_vector(&v, t, n, row, c0, c1),
         "reflect2" => reflection::reflect_by_vector(&u, t, n, row, c0, c1),
         "reflect_with_sign" => reflection::reflect_with_sign(a, t, n, row, c0, c1, sign),
-        "reflect3_with_sign" => reflection::reflect_by_vector_with_sign(&v, t, n, row, c0, c1, sign),
-        "reflect2_with_sign" => reflection::reflect_by_vector_with_sign(&u, t, n, row, c0, c1, sign),
+        "reflect3_with_sign" => reflection::reflect_by_vector_with_sign(
+            &v, t, n, row, c0, c1, sign,
+        ),
+        "reflect2_with_sign" => reflection::reflect_by_vector_with_sign(
+            &u, t, n, row, c0, c1, sign,
+        ),
         "reflect_rows" => reflection::reflect_rows(a, t, n, rows, c0),
         "reflect_rows3" => reflection::reflect_rows_by_vector(&v, t, n, rows, c0),
         "reflect_rows2" => reflection::reflect_rows_by_vector(&u, t, n, rows, c0),
         "reflect_rows_with_sign" => reflection::reflect_rows_with_sign(a, t, n, rows, c0, sign),
-        "reflect_rows3_with_sign" => reflection::reflect_rows_by_vector_with_sign(&v, t, n, rows, c0, sign),
-        "reflect_rows2_with_sign" => reflection::reflect_rows_by_vector_with_sign(&u, t, n, rows, c0, sign),
+        "reflect_rows3_with_sign" => reflection::reflect_rows_by_vector_with_sign(
+            &v, t, n, rows, c0, sign,
+        ),
+        "reflect_rows2_with_sign" => reflection::reflect_rows_by_vector_with_sign(
+            &u, t, n, rows, c0, sign,
+        ),
         _ => return None,
     }
     say::numbers(rt, t);
