@@ -4,31 +4,27 @@
 // and the exit status is 0 all the same; it is 1 only where standard error takes nothing either.
 #![tactic(auto)]
 
-use reading::Filled;
+use reading::Failure;
 use std::io;
 use std::io::Write;
 
-// Tells what has failed, with the system's words for it, and without the number that std puts behind them.
-fn tell(rt: &HostRuntime, what: &str, e: io::Error) -> io::Result<()> {
-    let mut words = format!(in rt.alloc(); "{e}")?;
-    if let Some(end) = words.find(" (os error ") {
-        words.truncate(end);
-    }
-    eprintln!(rt; "{what}: {words}")
+fn answer(rt: &HostRuntime) -> Result<(), Failure<'static>> {
+    let mut input = record::room();
+    let k = reading::fill(&mut rt.stdin(), &mut input).map_err(|error| Failure {
+        what: "looproots: standard input was not read",
+        error,
+    })?;
+    let mut text = [0; 65536];
+    let n = record::answer(&input[..k], &mut text);
+    rt.stdout().write_all(&text[..n]).map_err(|error| Failure {
+        what: "looproots: standard output was not written",
+        error,
+    })
 }
 
 fn main(rt: HostRuntime) -> io::Result<()> {
-    let mut input = record::room();
-    let k = match reading::fill(&mut rt.stdin(), &mut input) {
-        Filled::Bytes(k) => k,
-        Filled::Failed(e) => {
-            return tell(&rt, "looproots: standard input was not read", e);
-        }
-    };
-    let mut text = [0; 65536];
-    let n = record::answer(&input[..k], &mut text);
-    match rt.stdout().write_all(&text[..n]) {
+    match answer(&rt) {
         Ok(()) => Ok(()),
-        Err(e) => tell(&rt, "looproots: standard output was not written", e),
+        Err(failure) => eprintln!(rt; "{failure}"),
     }
 }

