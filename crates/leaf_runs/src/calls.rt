@@ -34,8 +34,7 @@ fn slice_changed(rt: &impl Print, name: &str, given: &str) -> Option<()> {
         "fill" => matrix::fill(x, next),
         "reflection_axis_mut" => {
             let a = householder::reflection_axis_mut(x);
-            say::number(rt, a.norm);
-            say::flag(rt, a.reflected);
+            say::reflection(rt, a.norm, a.reflected);
         }
         _ => return None,
     }

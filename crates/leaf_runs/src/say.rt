@@ -14,6 +14,12 @@ pub(crate) fn flag(rt: &impl Print, b: bool) {
     let _ = print!(rt; " {}", u8::from(b));
 }
 
+// What there is besides the axis: the norm, and whether there is a reflection.
+pub(crate) fn reflection(rt: &impl Print, norm: f64, reflected: bool) {
+    number(rt, norm);
+    flag(rt, reflected);
+}
+
 pub(crate) fn none(rt: &impl Print) {
     let _ = print!(rt; " none");
 }

@@ -30,14 +30,12 @@ pub(crate) fn tell3(rt: &impl Print, v: Vector3) {
 }
 
 pub(crate) fn axis2(rt: &impl Print, a: Axis2) {
-    say::number(rt, a.norm);
-    say::flag(rt, a.reflected);
+    say::reflection(rt, a.norm, a.reflected);
     tell2(rt, a.axis);
 }
 
 pub(crate) fn axis3(rt: &impl Print, a: Axis3) {
-    say::number(rt, a.norm);
-    say::flag(rt, a.reflected);
+    say::reflection(rt, a.norm, a.reflected);
     tell3(rt, a.axis);
 }
 
