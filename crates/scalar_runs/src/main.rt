@@ -3,7 +3,7 @@
 // The file stdout beside src/ is what the Rust functions answer (`oracle/run scalar` makes it again and compares).
 #![tactic(auto)]
 
-const STDOUT: i32 = 1;
+use std::io;
 
 const PATTERNS: [u64; 55] = [
     // zeros, the smallest and the largest subnormal, the smallest normal
@@ -70,39 +70,25 @@ const PATTERNS: [u64; 55] = [
     0xffff_ffff_ffff_ffff,
 ];
 
-fn column(w: u64) {
-    io::write_all(STDOUT, b" ");
-    io::print_hex(STDOUT, w, 16);
-}
-
-fn flag(b: bool) {
-    if b {
-        io::write_all(STDOUT, b" 1");
-    } else {
-        io::write_all(STDOUT, b" 0");
-    }
-}
-
-fn line(w: u64) {
+fn line(rt: &HostRuntime, w: u64) -> io::Result<()> {
     let x = scalar::of_bits(w);
     let e = scalar::to_exp(x);
-    io::print_hex(STDOUT, w, 16);
-    column(scalar::sqrt_bits(w));
-    column(scalar::bits_of(scalar::signum(x)));
-    column(scalar::bits_of(scalar::modulus(x)));
-    column(scalar::bits_of(e.magnitude));
-    column(scalar::bits_of(e.sign));
-    flag(scalar::is_finite(x));
-    flag(scalar::is_zero(x));
-    io::write_all(STDOUT, b"\n");
+    let root = scalar::sqrt_bits(w);
+    let signum = scalar::bits_of(scalar::signum(x));
+    let modulus = scalar::bits_of(scalar::modulus(x));
+    let magnitude = scalar::bits_of(e.magnitude);
+    let sign = scalar::bits_of(e.sign);
+    let finite = u8::from(scalar::is_finite(x));
+    let zero = u8::from(scalar::is_zero(x));
+    println!(rt;
+        "{w:016x} {root:016x} {signum:016x} {modulus:016x} {magnitude:016x} {sign:016x} {finite} {zero}"
+    )
 }
 
-fn main() {
-    io::write_all(
-        STDOUT,
-        b"pattern sqrt signum modulus magnitude sign finite zero\n",
-    );
-    for i in 0..55 {
-        line(PATTERNS[i]);
+fn main(rt: HostRuntime) -> io::Result<()> {
+    println!(rt; "pattern sqrt signum modulus magnitude sign finite zero")?;
+    for w in PATTERNS {
+        line(&rt, w)?;
     }
+    Ok(())
 }
