@@ -83,7 +83,6 @@ pub fn check_entries(m: &[f64], n: usize) -> Result<(), Refusal>
 }
 
 // The order, the lengths, the entries; `others` are the lengths of what is lent beside the matrix.
-#[tactic(auto, using(crate::proofs::ChecksInTurn::in_turn), unfolding(crate::specs::Checks::given_checks))]
 pub fn check_given(m: &[f64], n: usize, others: Result<(), Refusal>) -> Result<(), Refusal>
     ensures { result
         ≡ given_checks (length_check WrongLength (length m.now) (n * n) next others) n m.now }
