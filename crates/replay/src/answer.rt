@@ -1,5 +1,6 @@
 // An answer as the list has it, in three words.
 use calls::Answer;
+use refusal::Told;
 
 #[derive(Clone, Copy)]
 pub(crate) struct Stored {
@@ -17,7 +18,7 @@ pub(crate) fn as_stored(a: Answer) -> Stored {
             third: 0,
         },
         Err(r) => {
-            let t = refusal::tell(r);
+            let t = Told::from(r);
             Stored {
                 first: t.number,
                 second: t.row as u64,
