@@ -20,7 +20,7 @@ fn pack(x: Told) -> u64
 pub fn refusal_number(r: Refusal) -> u64
     ensures { result ≡ refusal_number r }
 {
-    pack(refusal::tell(r))
+    pack(Told::from(r))
 }
 
 #[tactic(auto, unfolding(crate::specs::Answer::checked_number))]

@@ -8,7 +8,7 @@ ghost use Rattle.record.specs.Text.{eigenvalue_line, matrix_lines, eigenvalue_li
 ghost use Rattle.record.specs.Lent.{HasRoom, Puts, MatrixLent, EigenvaluesLent};
 
 use crate::page::Page;
-use refusal::Refusal;
+use refusal::{Refusal, Told};
 
 impl Page<'_> {
     // A space and a number; any of 64 bits has 20 digits at most.
@@ -34,7 +34,7 @@ impl Page<'_> {
         requires { HasRoom 71 self.old }
         ensures { Puts (refused_line (told_of r)) 71 self.old self.new }
     {
-        let told = refusal::tell(r);
+        let told = Told::from(r);
         self.bytes(b"refused");
         self.number(told.number);
         self.number(told.row as u64);

@@ -1,5 +1,6 @@
 // An answer as the list has it.
 use calls::Answer;
+use refusal::Told;
 use std::fmt;
 
 // A refusal's number, row and column; 0, the passes and 0; or, where values were given, zeros.
@@ -11,7 +12,7 @@ impl From<Answer> for Stored {
         Stored(match a {
             Ok(passes) => [0, passes.unwrap_or(0), 0],
             Err(r) => {
-                let t = refusal::tell(r);
+                let t = Told::from(r);
                 [t.number, t.row as u64, t.col as u64]
             }
         })

@@ -30,4 +30,4 @@ returns c =
     (ap length floats ∙ floats_length x.m.now _ (fit (goal.at.returns c).Start).matrix) (ap length pre.workspace ∙ zeros-length _))
     c.do_decompose-ran.ensures.q_after c.decide-answer.ensures c.decomposed_number.ensures
     (encoded _ x.t.now c.encode.ensures.b_after (omega (arith, (fit (goal.at.returns c).Start).t)))
-    c.write_q.ensures.q_after (c.encode.ensures.b_after_2 (omega (arith, (fit (goal.at.returns c).Start).t))) c.write_q.ensures.q_read_back
+    c.write_q.ensures.q_after (c.encode.ensures.read_back (omega (arith, (fit (goal.at.returns c).Start).t))) c.write_q.ensures.q_read_back

@@ -12,4 +12,4 @@ returns-then-text-lt65536 c = record {
 }
 
 pub returns : goal.returns
-returns c = ?
+returns c = let h = c.text-1 in let k = c.new-arg-1 in let p = c.page-2-1 in let q = c.page-1 in ?

@@ -43,3 +43,6 @@ returns-in-Ok c = puts_as (text_by _ (sym c.in-Ok.is ∙ c.examine.ensures)) (rw
 
 pub slice_bounds-passed-start : goal.slice_bounds-passed-start
 slice_bounds-passed-start c = omega (arith, fit c.args.input.now c.examine.ensures c.in-Ok.is)
+
+pub slice_bounds-passed-count : goal.slice_bounds-passed-count
+slice_bounds-passed-count c = omega (arith, fit c.args.input.now c.examine.ensures c.in-Ok.is)
