@@ -35,27 +35,27 @@ loop-u-preserved c =
     record {
       count = inv.count + 1;
       moved = moved_more inv.moved c.loop-u-test.true;
-      lane0 = rw (moved_lane inv.moved 0, ← inv.lane0, c.plus-acc0.ensures);
-      lane1 = rw (moved_lane inv.moved 1, ← inv.lane1, c.plus-acc1.ensures);
-      lane2 = rw (moved_lane inv.moved 2, ← inv.lane2, c.plus-acc2.ensures);
-      lane3 = rw (moved_lane inv.moved 3, ← inv.lane3, c.plus-acc3.ensures);
-      lane4 = rw (moved_lane inv.moved 4, ← inv.lane4, c.plus-acc4.ensures);
-      lane5 = rw (moved_lane inv.moved 5, ← inv.lane5, c.plus-acc5.ensures);
-      lane6 = rw (moved_lane inv.moved 6, ← inv.lane6, c.plus-acc6.ensures);
-      lane7 = rw (moved_lane inv.moved 7, ← inv.lane7, c.plus-acc7.ensures);
+      lane0 = rw (moved_lane inv.moved 0, ← inv.lane0);
+      lane1 = rw (moved_lane inv.moved 1, ← inv.lane1);
+      lane2 = rw (moved_lane inv.moved 2, ← inv.lane2);
+      lane3 = rw (moved_lane inv.moved 3, ← inv.lane3);
+      lane4 = rw (moved_lane inv.moved 4, ← inv.lane4);
+      lane5 = rw (moved_lane inv.moved 5, ← inv.lane5);
+      lane6 = rw (moved_lane inv.moved 6, ← inv.lane6);
+      lane7 = rw (moved_lane inv.moved 7, ← inv.lane7);
     }
 
 pub loop-j-init : goal.loop-j-init
-loop-j-init c = record { upto = omega arith; sum = sym (times_none _ _) }
+loop-j-init c = sym (times_none _ _)
 
 pub loop-j-preserved : goal.loop-j-preserved
-loop-j-preserved c = record { upto = omega arith; sum = rw (times_more, ← c.loop-j.invariant.sum, c.plus-res.ensures) }
+loop-j-preserved c = rw (times_more, ← c.loop-j.invariant)
 
 pub returns : goal.returns
 unfolding lanes_summed
 returns c =
     let inv = c.loop-u.invariant in
-    c.loop-j.invariant.sum
+    c.loop-j.invariant
     ∙ moved_done inv.moved _ _ (omega arith) (omega arith)
     (rw (← inv.lane0, ← inv.lane1, ← inv.lane2, ← inv.lane3, ← inv.lane4, ← inv.lane5, ← inv.lane6, ← inv.lane7))
 

@@ -1,7 +1,7 @@
 -- `matrix::blas::dot` meets its contract. Assumes nothing.
 use mathlib.Core.Path.{◌≡◌}
 use mathlib.Core.List.{List}
-use Prim.Native.Nat.{ℕ, ◌-◌, ◌≤◌}
+use Prim.Native.Nat.{ℕ}
 use lib.ListN.{length}
 use lib.Ieee.{Float}
 use Rattle.loops.specs.Rounded.{◌⊕◌}
@@ -24,19 +24,12 @@ pub record Blocks (x y : List Float) (a0 a1 a2 a3 a4 a5 a6 a7 : Float) (u v : Li
   pub lane6 : a6 ≡ lane (products x y) 6 count
   pub lane7 : a7 ≡ lane (products x y) 7 count
 
--- after j of the terms behind the blocks
-pub record Left (u v : List Float) (start : Float) (end : ℕ) (res : Float) (j : ℕ) : Type 0 where
-  pub upto : j ≤ end
-  pub sum : res ≡ times (λ i d. d ⊕ products u v i) j start
-
 abbrev pub invariant-loop-u : goal.invariant-loop-u
 invariant-loop-u l = Blocks l.x l.y l.acc0 l.acc1 l.acc2 l.acc3 l.acc4 l.acc5 l.acc6 l.acc7 l.u l.v
 
 abbrev pub decreases-loop-u : goal.decreases-loop-u
 decreases-loop-u l = length l.u
 
+-- after j of the terms behind the blocks
 abbrev pub invariant-loop-j : goal.invariant-loop-j
-invariant-loop-j l = Left l.u l.v l.initial.res l.j-end l.res l.j
-
-abbrev pub decreases-loop-j : goal.decreases-loop-j
-decreases-loop-j l = l.j-end - l.j
+invariant-loop-j l = l.res ≡ times (λ i d. d ⊕ products l.a-items l.v i) l.j l.initial.res
