@@ -10,7 +10,8 @@ ghost use Rattle.householder.specs.Axis.{axis_answer, axis_of};
 use matrix::Vector;
 
 // What would be the column's first number after the reflection, and whether there is a reflection: there
-// is none where all squares of the column vanish.
+// is none where all squares of the column vanish. No enum: the norm is answered in both cases, and each caller takes it
+// whatever the case.
 #[derive(Clone, Copy)]
 pub struct Axis {
     pub norm: f64,

@@ -1,5 +1,5 @@
 -- One turn of a kernel's loop. A kernel that goes down columns rewrites, at column j, the entries of two or three rows; one that goes along
--- rows rewrites, at row i, the entries of two or three columns. Its memory t is the block done so far, of the matrix t₀ at entry.
+-- rows rewrites, at row i, the entries of two columns. Its memory t is the block done so far, of the matrix t₀ at entry.
 -- `unread_*`: what the turn reads has not been rewritten yet. `down_*` and `across_*`: after the turn the block has one column, or one row, more.
 -- Assumes nothing.
 use Prim.Native.Nat.{ℕ, ◌+◌, ◌*◌, ◌≤◌, ◌<◌}
@@ -74,7 +74,7 @@ pub down_three : (n i c0 j : ℕ) (g : Rule) (t₀ t : List Float) (a b d : Floa
 down_three n i c0 j g t₀ t a b d h k e u v w =
     rw (u, v, w) (sym (column_three n i j g t h) ∙ ap (range (at_entry n g j) i (i + 3)) e ∙ sym (in_block_column n i (i + 3) c0 j g t₀ k))
 
--- ---- one row of two or three columns, and a turn across
+-- ---- one row of two columns, and a turn across
 
 row_two : (n i k : ℕ) (g : Rule) (t : List Float) → i < n
     → in_block n i (i + 1) k (k + 2) g t ≡ put_two t (place n i k) (place n i (k + 1)) (g i k (t ! place n i k)) (g i (k + 1) (t ! place n i (k + 1)))
@@ -85,22 +85,6 @@ row_two n i k g t h =
     ∙ ap (at_entry n g (k + 1) i) (range-one (at_entry n g k) i t)
     ∙ later_two t (place n i k) (place n i (k + 1)) (g i k (t ! place n i k)) (g i (k + 1)) (places n i (k + 1) i k h h (λ e f. omega arith))
 
-row_three : (n i k : ℕ) (g : Rule) (t : List Float) → i < n
-    → in_block n i (i + 1) k (k + 3) g t
-    ≡ put_three t (place n i k) (place n i (k + 1)) (place n i (k + 2)) (g i k (t ! place n i k)) (g i (k + 1) (t ! place n i (k + 1)))
-    (g i (k + 2) (t ! place n i (k + 2)))
-unfolding in_block
-row_three n i k g t h =
-    range_three (λ j. range (at_entry n g j) i (i + 1)) k t
-    ∙ range-one (at_entry n g (k + 2)) i (range (at_entry n g (k + 1)) i (i + 1) (range (at_entry n g k) i (i + 1) t))
-    ∙ ap (λ s. at_entry n g (k + 2) i s) (range-one (at_entry n g (k + 1)) i (range (at_entry n g k) i (i + 1) t))
-    ∙ ap (λ s. at_entry n g (k + 2) i (at_entry n g (k + 1) i s)) (range-one (at_entry n g k) i t)
-    ∙ ap (at_entry n g (k + 2) i) (later_two t (place n i k) (place n i (k + 1)) (g i k (t ! place n i k)) (g i (k + 1))
-    (places n i (k + 1) i k h h (λ e f. omega arith)))
-    ∙ later_three t (place n i k) (place n i (k + 1)) (place n i (k + 2)) (g i k (t ! place n i k)) (g i (k + 1) (t ! place n i (k + 1))) (g i (k + 2))
-    (places n i (k + 2) i k h h (λ e f. omega arith))
-    (places n i (k + 2) i (k + 1) h h (λ e f. omega arith))
-
 pub across_two : (n i k : ℕ) (g : Rule) (t₀ t : List Float) (a b : Float) → length t₀ ≡ n * n → i < n → k + 2 ≤ n → t ≡ in_block n 0 i k (k + 2) g t₀
     → a ≡ g i k (t ! place n i k) → b ≡ g i (k + 1) (t ! place n i (k + 1))
     → set (set t (place n i k) a) (place n i (k + 1)) b ≡ in_block n 0 (i + 1) k (k + 2) g t₀
@@ -108,11 +92,3 @@ across_two n i k g t₀ t a b size h l e u v =
     rw (u, v)
     (sym (row_two n i k g t h) ∙ ap (in_block n i (i + 1) k (k + 2) g) e
     ∙ in_block_rows n g t₀ size 0 i (i + 1) k (k + 2) (omega arith) (omega arith) (omega arith) l)
-
-pub across_three : (n i k : ℕ) (g : Rule) (t₀ t : List Float) (a b d : Float) → length t₀ ≡ n * n → i < n → k + 3 ≤ n → t ≡ in_block n 0 i k (k + 3) g t₀
-    → a ≡ g i k (t ! place n i k) → b ≡ g i (k + 1) (t ! place n i (k + 1)) → d ≡ g i (k + 2) (t ! place n i (k + 2))
-    → set (set (set t (place n i k) a) (place n i (k + 1)) b) (place n i (k + 2)) d ≡ in_block n 0 (i + 1) k (k + 3) g t₀
-across_three n i k g t₀ t a b d size h l e u v w =
-    rw (u, v, w)
-    (sym (row_three n i k g t h) ∙ ap (in_block n i (i + 1) k (k + 3) g) e
-    ∙ in_block_rows n g t₀ size 0 i (i + 1) k (k + 3) (omega arith) (omega arith) (omega arith) l)

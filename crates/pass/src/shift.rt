@@ -8,17 +8,26 @@ ghost use Rattle.pass.specs.Pair.{pair};
 ghost use Rattle.pass.specs.Pass.{first_column, bulge, column_at};
 ghost use Rattle.pass.specs.Pass.{swept_past, reflected_at, rows_at, step_at};
 ghost use Rattle.pass.specs.Pass.{chased, closing, pass_here, pass_of};
-ghost use Rattle.pass.specs.Inner.{Reaches};
+ghost use Rattle.pass.specs.Inner.{Reaches, listed};
 
 use crate::place::{get, put};
 use crate::setting::Setting;
 use matrix::Vector;
 use window::Window;
 
-// The first column, from the shifts.
-fn first_column(t: &[f64], n: usize, start: usize, end: usize) -> Vector<3>
+// The first column, in three fields and no array: so it stays in registers, and what the steps after the first read of T
+// is read number by number. As a block it would wait for the stores before it: a seventh of a pass at order 3.
+#[derive(Clone, Copy)]
+struct First {
+    x: f64,
+    y: f64,
+    z: f64,
+}
+
+// From the shifts.
+fn first_column(t: &[f64], n: usize, start: usize, end: usize) -> First
     requires { Reaches n end t.now × (start + 2 ≤ end) }
-    ensures { result.0 ≡ first_column n start end t.now }
+    ensures { listed result ≡ first_column n start end t.now }
 {
     let m = end - 1;
     let h11 = get(t, n, start, start);
@@ -32,11 +41,11 @@ fn first_column(t: &[f64], n: usize, start: usize, end: usize) -> Vector<3>
     let hmn = get(t, n, m, end);
     let tra = hnn + hmm;
     let det = hnn * hmm - hnm * hmn;
-    Vector([
-        h11 * h11 + h12 * h21 - tra * h11 + det,
-        h21 * (h11 + h22 - tra),
-        h21 * h32,
-    ])
+    First {
+        x: h11 * h11 + h12 * h21 - tra * h11 + det,
+        y: h21 * (h11 + h22 - tra),
+        z: h21 * h32,
+    }
 }
 
 // The bulge at k: N numbers of column k - 1 from row k on.
@@ -135,21 +144,21 @@ fn step<const N: usize>(
 }
 
 // The column of the step at k: at the start the first column, past it the bulge.
-fn column_at(first: &Vector<3>, t: &[f64], n: usize, start: usize, k: usize) -> Vector<3>
+fn column_at(first: First, t: &[f64], n: usize, start: usize, k: usize) -> Vector<3>
     requires { Reaches n (k + 2) t.now }
-    ensures { result.0 ≡ column_at n start k first.now.0 t.now }
+    ensures { result.0 ≡ column_at n start k (listed first) t.now }
 {
     if k <= start {
-        return *first;
+        return Vector([first.x, first.y, first.z]);
     }
     bulge(t, n, k)
 }
 
 // The step at k by three numbers.
-fn chase(first: &Vector<3>, t: &mut [f64], q: &mut [f64], asked: Setting, w: Window, k: usize)
+fn chase(first: First, t: &mut [f64], q: &mut [f64], asked: Setting, w: Window, k: usize)
     requires { Reaches asked.order w.end t.old × (k + 1 < w.end) }
     ensures { pair t.new q.new
-        ≡ chased asked w first.now.0 k (pair t.old q.old) }
+        ≡ chased asked w (listed first) k (pair t.old q.old) }
 {
     let column = column_at(first, t, asked.order, w.start, k);
     step(&column, t, q, asked, w, k);
@@ -175,7 +184,7 @@ fn shift_here(t: &mut [f64], q: &mut [f64], asked: Setting, w: Window)
     let end = w.end;
     let first = first_column(t, asked.order, start, end);
     for k in start..end - 1 {
-        chase(&first, t, q, asked, w, k);
+        chase(first, t, q, asked, w, k);
     }
     close(t, q, asked, w);
 }

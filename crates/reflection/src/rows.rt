@@ -9,7 +9,8 @@ ghost use Rattle.reflection.specs.Reflected.{mirrored_rows, reflected_rows};
 ghost use Rattle.reflection.specs.Inner.{RowsFit, four_times, four_plus, four_put, four_along};
 ghost use Rattle.reflection.specs.Inner.{eight_times, eight_plus, eight_put, eight_along};
 
-// The sums of four rows.
+// The sums of four rows. One function for any number of rows, its sums in an array, took 1.03 to 1.05 of the time at
+// orders 16 to 64 and 1.3 at 3: so four and eight stay apart, in fields.
 #[derive(Clone, Copy)]
 struct Four {
     w0: f64,

@@ -5,6 +5,7 @@ use mathlib.Core.Path.{sym, ap, ◌∙◌}
 use Rattle.loops.specs.Times.{range_none, range_more, range_done}
 use Rattle.pass.specs.Pair.{pair}
 use Rattle.pass.specs.Pass.{chased, closing, pass_here}
+use Rattle.pass.specs.Inner.{listed}
 use Rattle.pass.proofs.shift.shift_here.Goals as goal
 
 pub loop-k-preserved : goal.loop-k-preserved
@@ -27,7 +28,7 @@ returns c =
     let x = c.args in
     let s = x.w.start in
     let e = x.w.end in
-    let done = range_done (chased x.asked x.w c.first_column-first.result.0) s (e - 1) l.k (pair x.t.now x.q.now) (omega arith) (omega arith)
+    let done = range_done (chased x.asked x.w (listed c.first_column-first.result)) s (e - 1) l.k (pair x.t.now x.q.now) (omega arith) (omega arith)
     (omega arith) in
     c.close.ensures ∙ ap (closing x.asked x.w) (l.invariant.done ∙ done) ∙ rw c.first_column-first.ensures
 

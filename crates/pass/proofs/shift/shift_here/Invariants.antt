@@ -9,7 +9,7 @@ use Rattle.window.specs.declared.Window.{Window}
 use Rattle.pass.specs.declared.setting.Setting.{Setting}
 use Rattle.pass.specs.Pair.{Pair, pair}
 use Rattle.pass.specs.Pass.{chased}
-use Rattle.pass.specs.Inner.{Reaches}
+use Rattle.pass.specs.Inner.{Reaches, listed}
 use Rattle.pass.proofs.shift.shift_here.Given as goal
 
 -- the steps before k have been made
@@ -22,7 +22,7 @@ pub record Chasing (asked : Setting) (w : Window) (first : List Float) (p₀ : P
   pub done : p ≡ range (chased asked w first) w.start k p₀
 
 abbrev pub invariant-loop-k : goal.invariant-loop-k
-invariant-loop-k l = Chasing l.asked l.w l.first.0 (pair l.initial.t l.initial.q) l.k-end l.k (pair l.t l.q)
+invariant-loop-k l = Chasing l.asked l.w (listed l.first) (pair l.initial.t l.initial.q) l.k-end l.k (pair l.t l.q)
 
 abbrev pub decreases-loop-k : goal.decreases-loop-k
 decreases-loop-k l = l.k-end - l.k
