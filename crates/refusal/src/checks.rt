@@ -36,7 +36,7 @@ pub fn check_length(has: usize, needs: usize, fault: Refusal) -> Result<(), Refu
 }
 
 // What is lent for T, then for Q if it is wanted.
-#[tactic(auto, using(crate::proofs::ChecksInTurn::in_turn), unfolding(crate::specs::Checks::lent_lengths, crate::specs::Checks::only_if))]
+#[tactic(auto, using(crate::proofs::PassedChecks::asked_in_turn), unfolding(crate::specs::Checks::lent_lengths))]
 pub fn check_lent(wanted: bool, needs: usize, tn: usize, qn: usize) -> Result<(), Refusal>
     ensures { result ≡ lent_lengths wanted needs tn qn }
 {
