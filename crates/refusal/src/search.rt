@@ -10,7 +10,8 @@ ghost use Rattle.refusal.specs.Inner.{found};
 
 use crate::refusal::Place;
 
-// Which entries of a matrix are finite numbers, where `value` is the float that an entry stands for.
+// Which entries of a matrix are finite numbers, where `value` is the float that an entry stands for. A type beside the
+// entry's tells it, so that a crate above can tell it of arrays.
 pub trait Finite<E> {
     ghost value: { E → Float };
 
@@ -58,7 +59,7 @@ fn index_not_finite<E, F: Finite<E>>(t: &[E]) -> Option<usize>
     t.iter().position(|x| !F::is_finite(x))
 }
 
-// Its place.
+// The first entry that is NaN or infinite.
 pub fn first_entry_not_finite<E, F: Finite<E>>(t: &[E], n: usize) -> Option<Place>
     ensures { result ≡ first_not_finite n (map F.value t.now) }
 {

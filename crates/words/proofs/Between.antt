@@ -14,7 +14,7 @@ use Rattle.loops.specs.Table.{table_of}
 use Rattle.matrix.specs.Vectors.{filled, zeros}
 use Rattle.matrix.proofs.Each.{filled-length, filled_at, zeros-length}
 use Rattle.words.specs.Floats.{floats_of, bytes_of}
-use Rattle.words.proofs.FloatLoops.{floats_of-length}
+use Rattle.words.proofs.Chunks.{floats_of-length}
 
 -- whatever stood there
 pub filled-zeros : (t : List Float) (k : ℕ) → length t ≡ k → filled zero t ≡ zeros k

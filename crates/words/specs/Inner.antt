@@ -1,8 +1,8 @@
--- What the contract of a private function names: one number written into a list.
-use Rattle.std.specs.Prelude.{ℕ, ◌+◌, List, set}
-use Rattle.loops.specs.Times.{times}
-use Rattle.words.specs.Words.{byte_of}
+-- What the contract of a private function names: the float whose pattern stands in eight bytes.
+use Rattle.std.specs.Prelude.{ℕ, List, Float}
+use Rattle.std.specs.Float.{binary64}
+use Rattle.std.specs.Float.Ieee.{of_bits}
+use Rattle.std.specs.Int.{w64, from_le_bytes}
 
--- s with w's eight bytes from `at` on
-unfoldable pub put64 : (s : List ℕ) → (at w : ℕ) → List ℕ
-put64 s at w = times (λ k t. set t (at + k) (byte_of w k)) 8 s
+unfoldable pub float_of : List ℕ → Float
+float_of word = of_bits binary64 (from_le_bytes w64 word)

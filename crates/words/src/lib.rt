@@ -4,7 +4,6 @@
 
 mod floats;
 mod search;
-mod word;
 
 pub use floats::{decode, encode};
 pub use search::first_not_finite;

@@ -1,11 +1,7 @@
 -- `words::floats::decode` meets its contract. Assumes nothing.
-use Prim.Native.Nat.{◌-◌}
-use Rattle.matrix.proofs.Each.{Rewriting}
-use Rattle.words.proofs.FloatLoops.{reading}
+use Rattle.std.proofs.Common.{◌≡◌, take, map}
+use Rattle.words.specs.Inner.{float_of}
 use Rattle.words.proofs.floats.decode.Given as goal
 
 abbrev pub invariant-loop-k : goal.invariant-loop-k
-invariant-loop-k l = Rewriting l.k-end (reading l.b) l.initial.a l.k l.a
-
-abbrev pub decreases-loop-k : goal.decreases-loop-k
-decreases-loop-k l = l.k-end - l.k
+invariant-loop-k l = take l.k l.a ≡ map float_of (take l.k l.words)

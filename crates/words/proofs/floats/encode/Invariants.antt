@@ -1,11 +1,8 @@
--- `words::floats::encode` meets its contract: that each float is a value of the format is told by what `bits_of` promises of it.
--- Assumes nothing.
-use Prim.Native.Nat.{◌-◌}
-use Rattle.words.proofs.FloatLoops.{Written}
+-- `words::floats::encode` meets its contract. Assumes nothing.
+use Rattle.std.proofs.Common.{◌≡◌, ◌*◌, take}
+use Rattle.std.specs.List.{flat_map}
+use Rattle.words.proofs.Bytes.{bytes}
 use Rattle.words.proofs.floats.encode.Given as goal
 
 abbrev pub invariant-loop-k : goal.invariant-loop-k
-invariant-loop-k l = Written l.a l.initial.b l.k l.b
-
-abbrev pub decreases-loop-k : goal.decreases-loop-k
-decreases-loop-k l = l.k-end - l.k
+invariant-loop-k l = take (8 * l.k) l.b ≡ flat_map bytes (take l.k l.a)
