@@ -1,6 +1,6 @@
 // The real Schur decomposition as a caller gets it: the arguments are checked, the run is made, its result is
 // looked at. A matrix of order n lies column by column in one slice.
-#![tactic(auto, using(refusal::proofs::ChecksInTurn::in_turn, refusal::proofs::ChecksInTurn::next_assoc), unfolding(crate::specs::Checks::tolerance_fits, crate::specs::Checks::budget_fits, crate::specs::Checks::argument_checks, crate::specs::Checks::all_lengths, crate::specs::Checks::result_checks, crate::specs::Inner::refusal_of, crate::specs::Decomposition::verdict, crate::specs::Decomposition::passes_of, crate::specs::Decomposition::settled, crate::specs::Decomposition::decided, crate::specs::Decomposition::nan_filled, refusal::specs::Refusal::refuse, refusal::specs::Checks::only_if))]
+#![tactic(auto, using(refusal::proofs::ChecksInTurn::in_turn, refusal::proofs::ChecksInTurn::next_assoc), unfolding(crate::specs::Checks::tolerance_fits, crate::specs::Checks::budget_fits, crate::specs::Checks::argument_checks, crate::specs::Checks::all_lengths, crate::specs::Checks::result_checks, crate::specs::Inner::refusal_of, crate::specs::Decomposition::verdict, crate::specs::Decomposition::passes_of, crate::specs::Decomposition::settled, crate::specs::Decomposition::decided, crate::specs::Decomposition::nan_filled, refusal::specs::Checks::only_if))]
 
 ghost use Rattle.std.specs.Prelude.{◌≡◌, true, length};
 ghost use Rattle.pass.specs.Pair.{pair};

@@ -1,5 +1,5 @@
 // The readers of a given T, a matrix of order n that lies column by column in one slice.
-#![tactic(auto, using(refusal::proofs::ChecksInTurn::in_turn, refusal::proofs::ChecksInTurn::next_back, crate::proofs::Real::real_held), unfolding(crate::specs::Readers::readable, crate::specs::Readers::finite_readable, crate::specs::Readers::shape_check, crate::specs::Readers::real_checks, crate::specs::Readers::real_lengths, crate::specs::Readers::real_read, crate::specs::Readers::real_finite_of, crate::specs::Readers::diagonal_if_real, crate::specs::Readers::complex_checks, crate::specs::Readers::complex_lengths, crate::specs::Readers::complex_read, crate::specs::Readers::complex_finite_of, refusal::specs::Checks::given_checks, crate::specs::Readers::pair_check, crate::specs::Readers::left_by, crate::specs::Readers::block_checks, refusal::specs::Refusal::refuse, refusal::specs::Refusal::refuse_at, refusal::specs::Refusal::if_passed))]
+#![tactic(auto, using(refusal::proofs::ChecksInTurn::in_turn, refusal::proofs::ChecksInTurn::next_back, crate::proofs::Real::real_held), unfolding(crate::specs::Readers::readable, crate::specs::Readers::finite_readable, crate::specs::Readers::shape_check, crate::specs::Readers::real_checks, crate::specs::Readers::real_lengths, crate::specs::Readers::real_read, crate::specs::Readers::real_finite_of, crate::specs::Readers::diagonal_if_real, crate::specs::Readers::complex_checks, crate::specs::Readers::complex_lengths, crate::specs::Readers::complex_read, crate::specs::Readers::complex_finite_of, refusal::specs::Checks::given_checks, crate::specs::Readers::pair_check, crate::specs::Readers::left_by, crate::specs::Readers::block_checks, refusal::specs::Refusal::if_passed))]
 
 ghost use Rattle.std.specs.Prelude.{◌≡◌, length};
 ghost use Rattle.loops.specs.Table.{table};
@@ -116,7 +116,9 @@ fn check_blocks(t: &[f64], n: usize) -> Result<(), Refusal>
     if let Some(p) = first_not_complex(t, n) {
         return Err(Refusal::BlockNotComplex(p));
     }
-    first_value_not_finite(t, n).map_or(Ok(()), |p| Err(Refusal::ResultNotFinite(p)))
+    first_value_not_finite(t, n)
+        .map(Refusal::ResultNotFinite)
+        .map_or(Ok(()), Err)
 }
 
 // One for each row.

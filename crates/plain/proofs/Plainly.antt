@@ -32,7 +32,7 @@ use Rattle.eigenvalues.specs.Readers.{pair_check, diagonal, Read, read, left_by}
 use Rattle.eigenvalues.proofs.DiagonalSearch.{place_here, place_none}
 use Rattle.plain.specs.Plain.{plain_lengths, Sized, both_of, plain_two, plain_budget, plain_asked, plain_ran}
 use Rattle.plain.specs.Plain.{complex_checked, plain_run, plain_read, plain_left}
-use Rattle.plain.specs.Plain.{InPlace, in_place, plain_begun}
+use Rattle.plain.specs.Plain.{InPlace, in_place, plain_begun, plain, kept}
 
 -- ---- what the checks of the order and the lengths tell
 
@@ -135,5 +135,7 @@ pub begun_kept : {r : Refusal} {a c : Checked} (n : ℕ) (t values w : List Floa
 unfolding plain_begun
 begun_kept n t values w h e = rw (h, e)
 
-pub begun_by : {c d : Checked} (n : ℕ) (t values w : List Float) → c ≡ d → plain_begun c n t values w ≡ plain_begun d n t values w
-begun_by n t values w e = ap (λ c. plain_begun c n t values w) e
+-- and of a copy
+pub copy_kept : {r : Refusal} {a c : Checked} (n : ℕ) (t values w : List Float) → c ≡ Err r → a ≡ Err r → plain a values w ≡ kept (plain_begun c n t values w)
+unfolding plain_begun
+copy_kept n t values w h e = rw (h, e)

@@ -87,8 +87,8 @@ fn decompose(t: &mut [f64], n: usize, work: &mut [f64]) -> Result<u64, Refusal>
         wanted: false,
         tolerance: f64::EPSILON,
     };
-    let mut q = [0.0f64; 0];
-    let ran = schur::do_decompose(t, &mut q, asked, 10000, work);
+    let mut q = [];
+    let ran = schur::do_decompose(t, &mut q, asked, 10_000, work);
     decomposition::decide(ran, t, &mut q, asked)
 }
 
@@ -117,6 +117,7 @@ fn plain_any(t: &mut [f64], n: usize, values: &mut [f64], work: &mut [f64]) -> R
 
 // The eigenvalues of the matrix in t, if all are real; t becomes T, unless the order is 2, and the workspace has
 // 2n numbers. Refused before the run, nothing is touched; after it, `values` is left as it was.
+#[tactic(auto, using(crate::proofs::Plainly::begun_kept, crate::proofs::Plainly::given_sized), unfolding(crate::specs::Plain::plain_placed_of))]
 pub fn plain_eigenvalues_in_place(
     t: &mut [f64],
     n: usize,
@@ -131,6 +132,7 @@ pub fn plain_eigenvalues_in_place(
 }
 
 // The same for entries that are known to be finite: they are not looked at again.
+#[tactic(auto, using(crate::proofs::Plainly::begun_kept, crate::proofs::Plainly::sizes_passed), unfolding(crate::specs::Plain::plain_finite_of))]
 pub fn plain_eigenvalues_of_finite(
     t: &mut [f64],
     n: usize,
@@ -179,6 +181,7 @@ fn plain_kept(m: &[f64], n: usize, values: &mut [f64], work: &mut [f64]) -> Resu
 }
 
 // The same for a matrix that is kept: a copy of it is worked on in place.
+#[tactic(auto, using(crate::proofs::Plainly::copy_kept, crate::proofs::Plainly::given_sized), unfolding(crate::specs::Plain::plain_of, crate::specs::Plain::plain_placed_of))]
 pub fn plain_eigenvalues(
     m: &[f64],
     n: usize,
