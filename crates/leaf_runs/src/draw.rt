@@ -1,5 +1,5 @@
 // The numbers that every call is given. Each is one of the patterns below: which, goes by a seed and by its place.
-ghost use Rattle.std.specs.Prelude.{◌≡◌, length};
+ghost use Rattle.std.specs.Prelude.{◌<◌};
 
 const PATTERNS: [u64; 44] = [
     // 0 to 22, of ordinary size: 1, -1, 2, -3, 0.5, -0.25, 0.1, -0.7, 1/3, pi, -e, 0.001, -1.5, 6.6, 9.7, -12.3,
@@ -56,45 +56,39 @@ const PATTERNS: [u64; 44] = [
     0x7ff8_0000_0000_0000,
 ];
 
-// Seeds 0, 8, 16, .. draw ordinary numbers; 1, 9, .. zeros; 2, 10, .. what has vanishing squares; 3, 11, .. all
-// small ones; 4, 12, .. large ones; 5, 13, .. ordinary ones and zeros; 6, 14, .. all finite ones; 7, 15, .. infinities,
-// NaN and the first eight ordinary ones.
-pub(crate) fn drawn(seed: usize, place: usize) -> f64 {
+fn pattern(seed: usize, place: usize) -> usize
+    ensures { result < 44 }
+{
     let k = seed % 64 * 5 + place % 128 * 9;
-    scalar::of_bits(PATTERNS[pattern(seed % 8, k) % 44])
-}
-
-fn pattern(kind: usize, k: usize) -> usize {
-    match kind {
+    match seed % 8 {
+        // ordinary numbers
         0 => k % 23,
+        // zeros
         1 => 23 + k % 2,
+        // what has vanishing squares
         2 => 23 + k % 7,
+        // all small ones
         3 => 23 + k % 11,
+        // large ones
         4 => 34 + k % 7,
+        // ordinary ones and zeros
         5 => k % 25,
+        // all finite ones
         6 => k % 41,
-        _ => 41 + k % 11,
+        // infinities, NaN and the first eight ordinary ones
+        _ => (41 + k % 11) % 44,
     }
 }
 
-fn zeros() -> [f64; 81]
-    ensures { 81 ≡ length result }
-{
-    [0.0; 81]
+pub(crate) fn drawn(seed: usize, place: usize) -> f64 {
+    scalar::of_bits(PATTERNS[pattern(seed, place)])
 }
 
-fn fill(v: &mut [f64], seed: usize) {
-    for i in 0..v.len() {
-        v[i] = drawn(seed, i);
+// The first 81 numbers of a seed: a call is given some of them, order 9 at most.
+pub(crate) fn numbers_of(seed: usize) -> [f64; 81] {
+    let mut numbers = [0.0; 81];
+    for (place, x) in numbers.iter_mut().enumerate() {
+        *x = drawn(seed, place);
     }
-}
-
-// The first 81 numbers of a seed: a call is given some of them, order 9 at most. The `ensures` has the length and no
-// more: so a caller's proof does not carry 81 numbers along.
-pub(crate) fn numbers_of(seed: usize) -> [f64; 81]
-    ensures { 81 ≡ length result }
-{
-    let mut v = zeros();
-    fill(&mut v, seed);
-    v
+    numbers
 }

@@ -7,45 +7,46 @@
 // `oracle/run leaves --write` stores it.
 #![tactic(auto)]
 
-mod case;
+mod calls;
 mod draw;
-mod read;
-mod reductions;
-mod reflections;
-mod rotations;
 mod say;
-mod slices;
 mod vectors;
 
-const STDIN: i32 = 0;
+use std::io::Read;
 
-// Every name stands in the list below. A line of it has the places of its calls' numbers (`case::case_of`), a digit for
-// each, in their order, then a space and the names, each behind a |. The functions of `case` go by the line, counted
-// from 0, and those that they call by the name's place in the line, counted from 1.
-fn main() {
-    let mut text = io::large_buffer();
-    let n = io::read_full(STDIN, &mut text);
-    read::lines(
-        &text[..n],
-        b"17 |normalize_mut|scale_mut|unscale_mut|fill|reflection_axis_mut
-0135 |put
-012345678 |rotate|rotate_rows
-012345678 |reflect|reflect3|reflect2|reflect_with_sign|reflect3_with_sign|reflect2_with_sign
-012345678 |reflect_rows|reflect_rows3|reflect_rows2
-012345678 |reflect_rows_with_sign|reflect_rows3_with_sign|reflect_rows2_with_sign
-01257 |clear_column|clear_column, matrix
-01297 |assemble_q
-07 |reduce, matrix|reduce, Q
-075 |reduce, column
-1278 |dot|copy_from
-17 |norm_squared|norm|camax
-0135 |entry
-083456 |block_fits
-7 |Vector2::dot|Vector3::dot|Vector2::norm_squared|Vector3::norm_squared|Vector2::norm|Vector3::norm
-7 |Vector2::unscale|Vector3::unscale|Vector2::normalize|Vector3::normalize|reflection_axis2|reflection_axis3
-7 |Rotation::identity|Rotation::new|Rotation::try_new|Rotation::cancel_y|Rotation::inverse",
-    );
-    if n == 65536 {
-        say::word(b"not understood: more text than there is room for\n");
+// A text has fewer bytes.
+const ROOM: usize = 65536;
+
+// A line's name ends where a number begins behind a space: there are spaces in names too.
+fn call(rt: &impl Print, line: &[u8]) -> Option<()> {
+    let end = line
+        .windows(2)
+        .position(|pair| matches!(pair, [b' ', b'0'..=b'9']))?;
+    let text = str::from_utf8(line).ok()?;
+    let (name, given) = (text.get(..end)?, text.get(end..)?);
+    calls::run(rt, name, given.strip_prefix(' ')?)
+}
+
+// Blank lines and lines that begin with # are left out.
+fn tell(rt: &impl Print, number: usize, line: &[u8]) {
+    if line.is_empty() || line.starts_with(b"#") {
+        return;
+    }
+    let _ = rt.write_all(line);
+    if call(rt, line).is_none() {
+        let _ = print!(rt; " not understood, line {number}");
+    }
+    let _ = println!(rt);
+}
+
+// A read that fails ends the text, and a write that fails is passed over.
+fn main(rt: HostRuntime) {
+    let mut text = Vec::new(rt.alloc());
+    let _ = rt.stdin().take(ROOM as u64).read_to_end(&mut text);
+    for (number, line) in (1..).zip(text.split(|byte| *byte == b'\n')) {
+        tell(&rt, number, line);
+    }
+    if text.len() == ROOM {
+        let _ = println!(rt; "not understood: more text than there is room for");
     }
 }

@@ -1,27 +1,25 @@
-// The parts of a line.
+// What is told of a call, behind its line. A write that fails is passed over.
 
-const STDOUT: i32 = 1;
-
-pub(crate) fn word(w: &[u8]) {
-    io::write_all(STDOUT, w);
+pub(crate) fn number(rt: &impl Print, x: f64) {
+    let _ = print!(rt; " {:016x}", scalar::bits_of(x));
 }
 
-pub(crate) fn whole(n: usize) {
-    word(b" ");
-    io::print_decimal(STDOUT, n as u64);
-}
-
-pub(crate) fn flag(b: bool) {
-    whole(b as usize);
-}
-
-pub(crate) fn number(x: f64) {
-    word(b" ");
-    io::print_hex(STDOUT, scalar::bits_of(x), 16);
-}
-
-pub(crate) fn numbers(v: &[f64]) {
-    for i in 0..v.len() {
-        number(v[i]);
+pub(crate) fn numbers(rt: &impl Print, v: &[f64]) {
+    for x in v {
+        number(rt, *x);
     }
+}
+
+pub(crate) fn flag(rt: &impl Print, b: bool) {
+    let _ = print!(rt; " {}", u8::from(b));
+}
+
+// What there is besides the axis: the norm, and whether there is a reflection.
+pub(crate) fn reflection(rt: &impl Print, norm: f64, reflected: bool) {
+    number(rt, norm);
+    flag(rt, reflected);
+}
+
+pub(crate) fn none(rt: &impl Print) {
+    let _ = print!(rt; " none");
 }

@@ -1,6 +1,7 @@
-// Vectors of two and of three. The other side of a dot product is seed 16, whose numbers are above, below and above 0.
+// Vectors of two and of three, and rotations.
 use crate::draw::drawn;
-use crate::say::{flag, number};
+use crate::say;
+use givens::{Rotation, Turn};
 use householder::{Axis2, Axis3};
 use matrix::{Vector2, Vector3};
 
@@ -20,52 +21,36 @@ pub(crate) fn three(seed: usize) -> Vector3 {
     }
 }
 
-pub(crate) fn sum(k: usize, seed: usize) -> f64 {
-    let u = two(seed);
-    let v = three(seed);
-    match k {
-        1 => u.dot(two(16)),
-        2 => v.dot(three(16)),
-        3 => u.norm_squared(),
-        4 => v.norm_squared(),
-        5 => u.norm(),
-        _ => v.norm(),
-    }
+pub(crate) fn tell2(rt: &impl Print, v: Vector2) {
+    say::numbers(rt, &[v.x, v.y]);
 }
 
-fn tell2(v: Vector2) {
-    number(v.x);
-    number(v.y);
+pub(crate) fn tell3(rt: &impl Print, v: Vector3) {
+    say::numbers(rt, &[v.x, v.y, v.z]);
 }
 
-fn tell3(v: Vector3) {
-    number(v.x);
-    number(v.y);
-    number(v.z);
+pub(crate) fn axis2(rt: &impl Print, a: Axis2) {
+    say::reflection(rt, a.norm, a.reflected);
+    tell2(rt, a.axis);
 }
 
-fn axis2(a: Axis2) {
-    number(a.norm);
-    flag(a.reflected);
-    tell2(a.axis);
+pub(crate) fn axis3(rt: &impl Print, a: Axis3) {
+    say::reflection(rt, a.norm, a.reflected);
+    tell3(rt, a.axis);
 }
 
-fn axis3(a: Axis3) {
-    number(a.norm);
-    flag(a.reflected);
-    tell3(a.axis);
+pub(crate) fn rotation(rt: &impl Print, r: Rotation) {
+    say::numbers(rt, &[r.c, r.s]);
 }
 
-pub(crate) fn change(k: usize, seed: usize) {
-    let u = two(seed);
-    let v = three(seed);
-    let divisor = drawn(seed, 3);
-    match k {
-        1 => tell2(u.unscale(divisor)),
-        2 => tell3(v.unscale(divisor)),
-        3 => tell2(u.normalize()),
-        4 => tell3(v.normalize()),
-        5 => axis2(householder::reflection_axis2(u)),
-        _ => axis3(householder::reflection_axis3(v)),
+pub(crate) fn turn(rt: &impl Print, t: Turn) {
+    rotation(rt, t.rotation);
+    say::number(rt, t.norm);
+}
+
+pub(crate) fn made(rt: &impl Print, m: Option<Turn>) {
+    match m {
+        Some(found) => turn(rt, found),
+        None => say::none(rt),
     }
 }

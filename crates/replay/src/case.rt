@@ -1,125 +1,178 @@
-// A case: a call, and what it must come to. It is the bytes of its record, b: words are read where they are needed.
-ghost use Rattle.std.specs.Prelude.{◌≡◌, length};
-
-use crate::answer::as_stored;
-use crate::slots::start;
-use crate::unpack::word;
-use crate::{expected, lent};
+// A case: a call, and what it must come to.
+use crate::answer::Stored;
+use crate::slots::{Room, Slots};
 use calls::{Call, Entry};
+use std::fmt;
 
-// The places of a case's words; the lengths of x, y and z, the answer, what is left in x, y and z, and from where
-// they are filled have three each.
-pub(crate) const ENTRY: usize = 0;
-
-const SLOT: usize = 1;
-
-const COUNT: usize = 2;
-
-const ORDER: usize = 3;
-
-const TOLERANCE: usize = 4;
-
-const BUDGET: usize = 5;
-
-const LENGTHS: usize = 6;
-
-pub(crate) const ANSWER: usize = 9;
-
-pub(crate) const LEFT: usize = 12;
-
-pub(crate) const FROM: usize = 15;
-
-// The entry of a number from 1 to 6.
-fn entry_of(number: u64) -> Entry {
-    match number {
-        1 => Entry::WithQ,
-        2 => Entry::WithoutQ,
-        3 => Entry::Real,
-        4 => Entry::Complex,
-        5 => Entry::Plain,
-        _ => Entry::Root,
-    }
-}
-
-fn call_of(b: &[u8]) -> Call {
-    let entry = entry_of(word(b, ENTRY));
-    Call {
-        entry,
-        order: word(b, ORDER) as usize,
-        tolerance: scalar::of_bits(word(b, TOLERANCE)),
-        budget: word(b, BUDGET),
-    }
-}
-
-// How a case went, with the number of the refusal that came, or 0. One that is no case, or has no room, is not made.
+// What is left in a lent slice: a slot is one of those that a call is given numbers from.
 #[derive(Clone, Copy)]
-pub(crate) enum Went {
-    AsExpected(u64),
-    Otherwise(u64),
-    NotMade,
+enum Left {
+    AsBefore,
+    Nan,
+    Zero,
+    Slot(usize),
 }
 
-// Makes the call: it is given m, and lent x, y and z.
-fn make(b: &[u8], m: &[f64], x: &mut [f64], y: &mut [f64], z: &mut [f64], slots: &[f64]) -> Went {
-    let came = as_stored(calls::run(call_of(b), m, x, y, z));
-    if expected::same(b, came, x, y, z, slots) {
-        return Went::AsExpected(came.first);
+impl From<u64> for Left {
+    fn from(word: u64) -> Left {
+        match word {
+            0 => Left::AsBefore,
+            1 => Left::Nan,
+            2 => Left::Zero,
+            _ => Left::Slot((word - 3) as usize),
+        }
     }
-    Went::Otherwise(came.first)
 }
 
-// The same, where x, y and z are rooms to lend from.
-fn lend(b: &[u8], m: &[f64], x: &mut [f64], y: &mut [f64], z: &mut [f64], slots: &[f64]) -> Went {
-    let first = word(b, LENGTHS) as usize;
-    let second = word(b, LENGTHS + 1) as usize;
-    let third = word(b, LENGTHS + 2) as usize;
-    if x.len() < first || y.len() < second || z.len() < third {
-        return Went::NotMade;
-    }
-    make(
-        b,
-        m,
-        &mut x[0..first],
-        &mut y[0..second],
-        &mut z[0..third],
-        slots,
-    )
+// A slice that is lent: its length, the place of slot 5 from which it is filled, and what is left in it.
+#[derive(Clone, Copy)]
+struct Lent {
+    len: usize,
+    from: usize,
+    left: Left,
 }
 
-fn room() -> [f64; 4225]
-    ensures { 4225 ≡ length result }
-{
-    [0.0; 4225]
+impl Lent {
+    // The first place that does not hold what is expected. A slot that there is not has 9999, which no slice has.
+    fn unlike(self, came: &[f64], before: &Room, slots: &Slots) -> Option<usize> {
+        match self.left {
+            Left::AsBefore => unlike(came, before),
+            Left::Nan => other_than(came, 0x7ff8_0000_0000_0000),
+            Left::Zero => other_than(came, 0),
+            Left::Slot(k) => match slots.given(k) {
+                Some(numbers) => unlike(came, numbers),
+                None => Some(9999),
+            },
+        }
+    }
 }
 
-// The same, on rooms full of what lent memory holds.
-fn given(b: &[u8], m: &[f64], slots: &[f64]) -> Went {
-    let mut x = room();
-    let mut y = room();
-    let mut z = room();
-    lent::fill(&mut x, word(b, FROM) as usize, slots);
-    lent::fill(&mut y, word(b, FROM + 1) as usize, slots);
-    lent::fill(&mut z, word(b, FROM + 2) as usize, slots);
-    lend(b, m, &mut x, &mut y, &mut z, slots)
+// The first place where two slices have numbers of other patterns.
+fn unlike(v: &[f64], w: &[f64]) -> Option<usize> {
+    v.iter()
+        .zip(w)
+        .position(|(x, y)| scalar::bits_of(*x) != scalar::bits_of(*y))
 }
 
-pub(crate) fn run(b: &[u8], slots: &[f64]) -> Went {
-    let entry = word(b, ENTRY);
-    let k = word(b, SLOT) as usize;
-    let count = word(b, COUNT) as usize;
-    if entry == 0 || 6 < entry {
-        return Went::NotMade;
+// The first place of a number that has not this pattern.
+fn other_than(v: &[f64], pattern: u64) -> Option<usize> {
+    v.iter().position(|x| scalar::bits_of(*x) != pattern)
+}
+
+#[derive(Clone, Copy)]
+pub(crate) struct Case {
+    call: Call,
+    // the slot with what is given, and how many numbers of it
+    slot: usize,
+    count: usize,
+    answer: Stored,
+    lent: [Lent; 3],
+}
+
+fn entry_of(number: u64) -> Option<Entry> {
+    match number {
+        1 => Some(Entry::WithQ),
+        2 => Some(Entry::WithoutQ),
+        3 => Some(Entry::Real),
+        4 => Some(Entry::Complex),
+        5 => Some(Entry::Plain),
+        6 => Some(Entry::Root),
+        _ => None,
     }
-    if 5 <= k {
-        return Went::NotMade;
+}
+
+impl Case {
+    // A word that is missing is 0. None where there is no such entry.
+    pub(crate) fn read(record: &[[u8; 8]]) -> Option<Case> {
+        let mut words = [[0; 3]; 6];
+        for (word, bytes) in words.as_flattened_mut().iter_mut().zip(record) {
+            *word = u64::from_le_bytes(*bytes);
+        }
+        let [
+            [entry, slot, count],
+            [order, tolerance, budget],
+            [len_x, len_y, len_z],
+            answer,
+            [left_x, left_y, left_z],
+            [from_x, from_y, from_z],
+        ] = words;
+        let lent = |len: u64, from: u64, left: u64| Lent {
+            len: len as usize,
+            from: from as usize,
+            left: Left::from(left),
+        };
+        Some(Case {
+            call: Call {
+                entry: entry_of(entry)?,
+                order: order as usize,
+                tolerance: scalar::of_bits(tolerance),
+                budget,
+            },
+            slot: slot as usize,
+            count: count as usize,
+            answer: Stored(answer),
+            lent: [
+                lent(len_x, from_x, left_x),
+                lent(len_y, from_y, left_y),
+                lent(len_z, from_z, left_z),
+            ],
+        })
     }
-    if 4225 < count {
-        return Went::NotMade;
+
+    // None where there is no such slot, or no room.
+    pub(crate) fn run(&self, slots: &Slots) -> Option<Outcome> {
+        let given = slots.given(self.slot)?.get(..self.count)?;
+        let [x, y, z] = self.lent;
+        let before = [
+            slots.filled(x.from),
+            slots.filled(y.from),
+            slots.filled(z.from),
+        ];
+        let [mut in_x, mut in_y, mut in_z] = before;
+        let in_x = in_x.get_mut(..x.len)?;
+        let in_y = in_y.get_mut(..y.len)?;
+        let in_z = in_z.get_mut(..z.len)?;
+        let came = Stored::from(calls::run(self.call, given, in_x, in_y, in_z));
+        Some(Outcome {
+            entry: self.call.entry,
+            came,
+            differences: Differences {
+                answer: (came != self.answer).then_some(came),
+                places: [
+                    x.unlike(in_x, &before[0], slots),
+                    y.unlike(in_y, &before[1], slots),
+                    z.unlike(in_z, &before[2], slots),
+                ],
+            },
+        })
     }
-    let from = start(k);
-    let to = from + count;
-    if slots.len() < to {
-        return Went::NotMade;
+}
+
+// How a case went.
+#[derive(Clone, Copy)]
+pub(crate) struct Outcome {
+    pub(crate) entry: Entry,
+    pub(crate) came: Stored,
+    pub(crate) differences: Differences,
+}
+
+// What differs from what is expected: the answer, and of each slice the first place.
+#[derive(Clone, Copy, Default, PartialEq, Eq)]
+pub(crate) struct Differences {
+    answer: Option<Stored>,
+    places: [Option<usize>; 3],
+}
+
+impl fmt::Display for Differences {
+    fn fmt<W: fmt::Write>(&self, f: &mut fmt::Formatter<W>) -> fmt::Result {
+        if let Some(came) = self.answer {
+            write!(f, "answer {came}, ")?;
+        }
+        for (k, place) in (1..4).zip(self.places) {
+            if let Some(place) = place {
+                write!(f, "slice {k} at {place}, ")?;
+            }
+        }
+        Ok(())
     }
-    given(b, &slots[from..to], slots)
 }

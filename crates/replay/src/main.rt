@@ -28,14 +28,11 @@
 
 mod answer;
 mod case;
-mod expected;
-mod lent;
 mod list;
 mod met;
-mod say;
+mod report;
 mod slots;
-mod unpack;
 
-fn main() {
-    list::run();
+fn main(rt: HostRuntime) {
+    list::replay(&rt, &mut rt.stdin());
 }

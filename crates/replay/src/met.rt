@@ -1,64 +1,42 @@
-// How often each entry gave each number: 16 counts for each entry, the first for what it accepted.
-use crate::say::{whole, word};
+// How often each entry gave each number: the first for what it accepted.
+use calls::Entry;
+use std::fmt;
 
-pub(crate) fn more(n: u64) -> u64 {
-    if n < 1000000000 {
-        return n + 1;
-    }
-    n
+const NAMES: [&str; 6] = [
+    "decomposition with Q",
+    "decomposition without Q",
+    "real reader",
+    "complex reader",
+    "plain entry",
+    "root",
+];
+
+#[derive(Clone, Copy, Default)]
+pub(crate) struct Met {
+    // of each entry
+    times: [[u64; 16]; 6],
 }
 
-pub(crate) fn count(counts: &mut [u64], entry: u64, number: u64) {
-    let k = (entry % 8 * 16 + number % 16) as usize;
-    if k < counts.len() {
-        counts[k] = more(counts[k]);
-    }
-}
-
-// How often an entry gave a number.
-fn met(counts: &[u64], entry: usize, number: usize) -> u64 {
-    let k = entry % 8 * 16 + number % 16;
-    if k < counts.len() {
-        return counts[k];
-    }
-    0
-}
-
-fn refused(counts: &[u64], entry: usize, number: usize) {
-    let times = met(counts, entry, number);
-    if times == 0 {
-        return;
-    }
-    word(b", ");
-    whole(times);
-    word(b" refused ");
-    whole(number as u64);
-}
-
-fn name(entry: usize) {
-    match entry {
-        1 => word(b"decomposition with Q: "),
-        2 => word(b"decomposition without Q: "),
-        3 => word(b"real reader: "),
-        4 => word(b"complex reader: "),
-        5 => word(b"plain entry: "),
-        _ => word(b"root: "),
+impl Met {
+    pub(crate) fn count(&mut self, entry: Entry, number: u64) {
+        let times = &mut self.times[entry as usize][(number % 16) as usize];
+        *times = times.saturating_add(1);
     }
 }
 
-fn line(counts: &[u64], entry: usize) {
-    name(entry);
-    whole(met(counts, entry, 0));
-    word(b" accepted");
-    for number in 1..16 {
-        refused(counts, entry, number);
-    }
-    word(b"\n");
-}
-
-// What each entry answered, a line each.
-pub(crate) fn lines(counts: &[u64]) {
-    for entry in 1..7 {
-        line(counts, entry);
+// A line for each entry.
+impl fmt::Display for Met {
+    fn fmt<W: fmt::Write>(&self, f: &mut fmt::Formatter<W>) -> fmt::Result {
+        for (name, times) in NAMES.iter().zip(&self.times) {
+            let accepted = times[0];
+            write!(f, "{name}: {accepted} accepted")?;
+            for (number, times) in times.iter().enumerate().skip(1) {
+                if *times != 0 {
+                    write!(f, ", {times} refused {number}")?;
+                }
+            }
+            writeln!(f)?;
+        }
+        Ok(())
     }
 }

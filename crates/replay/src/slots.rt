@@ -1,44 +1,38 @@
-// Six slots for numbers, one behind the other in one slice, each with room for 4225: order 65 has its lengths too.
-// The last holds what lent memory is filled with.
-ghost use Rattle.std.specs.Prelude.{◌≡◌, length, ◌+◌, ◌≤◌, ◌<◌};
+// What calls are given and what lent memory is filled with, as the list has it so far.
 
-use crate::unpack::word;
+// Order 65 has its lengths too.
+const ROOM: usize = 4225;
 
-pub(crate) fn empty() -> [f64; 25350]
-    ensures { 25350 ≡ length result }
-{
-    [0.0; 25350]
-}
+pub(crate) type Room = [f64; ROOM];
 
-// Where slot k begins.
-pub(crate) fn start(k: usize) -> usize
-    requires { k < 6 }
-    ensures { result + 4225 ≤ 25350 }
-{
-    k * 4225
-}
+#[derive(Drop)]
+pub(crate) struct Slots([Room; 6]);
 
-// Puts the numbers of these patterns into v, as many as it has places.
-fn numbers(b: &[u8], v: &mut [f64]) {
-    for i in 0..v.len() {
-        v[i] = scalar::of_bits(word(b, i));
+impl Slots {
+    pub(crate) fn new() -> Slots {
+        Slots([[0.0; ROOM]; 6])
     }
-}
 
-// Puts the numbers of these patterns into slot k: false where there is no room for them.
-pub(crate) fn put(b: &[u8], k: usize, slots: &mut [f64]) -> bool {
-    let count = b.len() / 8;
-    if 6 <= k {
-        return false;
+    // One that a call can be given numbers from.
+    pub(crate) fn given(&self, k: usize) -> Option<&Room> {
+        let (_, given) = self.0.split_last()?;
+        given.get(k)
     }
-    if 4225 < count {
-        return false;
+
+    // Puts the numbers of these patterns at the start of slot k: None where there is no room for them.
+    pub(crate) fn put(&mut self, k: usize, patterns: &[[u8; 8]]) -> Option<()> {
+        let room = self.0.get_mut(k)?.get_mut(..patterns.len())?;
+        for (x, pattern) in room.iter_mut().zip(patterns) {
+            *x = scalar::of_bits(u64::from_le_bytes(*pattern));
+        }
+        Some(())
     }
-    let from = start(k);
-    let to = from + count;
-    if slots.len() < to {
-        return false;
+
+    // What lent memory holds before a call: the numbers of the last slot from this place on, and from its first behind
+    // its last.
+    pub(crate) fn filled(&self, from: usize) -> Room {
+        let [.., mut room] = self.0;
+        room.rotate_left(from % ROOM);
+        room
     }
-    numbers(b, &mut slots[from..to]);
-    true
 }

@@ -1,9 +1,0 @@
--- `leaf_runs::read::find` is safe and ends. Assumes nothing.
-use Rattle.std.proofs.Common.{◌≤◌, length, ◌+◌, ◌-◌}
-use Rattle.leaf_runs.proofs.read.find.Given as goal
-
-abbrev pub invariant-loop-at : goal.invariant-loop-at
-invariant-loop-at l = record { place : l.at ≤ length l.list + 1; count : l.group ≤ l.at }
-
-abbrev pub decreases-loop-at : goal.decreases-loop-at
-decreases-loop-at l = length l.list + 1 - l.at
