@@ -64,8 +64,7 @@ pub extern "C" fn manulsek_decompose(
 pub extern "C" fn manulsek_eigenvalues(n: usize, t: &[u8], values: &mut [u8]) -> u64
     ensures { listed result values.new ≡ real_bytes n t.now values.old }
 {
-    let mut none = [0u8; 0];
-    lists::call::<RealReader>(n, t, values, &mut none)
+    lists::call::<RealReader>(n, t, values, &mut [])
 }
 
 // The eigenvalues of a T, by their real and imaginary parts: 0, or a refusal.
@@ -88,6 +87,5 @@ pub extern "C" fn manulsek_complex_eigenvalues(
 pub extern "C" fn manulsek_plain_eigenvalues(n: usize, m: &[u8], values: &mut [u8]) -> u64
     ensures { listed result values.new ≡ plain_bytes n m.now values.old }
 {
-    let mut none = [0u8; 0];
-    lists::call::<PlainEntry>(n, m, values, &mut none)
+    lists::call::<PlainEntry>(n, m, values, &mut [])
 }

@@ -7,7 +7,8 @@ use native.Mathlib.Numerals.{add-one}
 use native.Mathlib.Omega.{arith}
 use borrow.Author.Tests.{le-leb, lt-leb}
 use lib.ListN.{length, get_or, take, drop, set, length-append, length-set}
-use lib.Seq.{take-suc, sets, sets-eq}
+use lib.Seq.{length-take-le, take-suc, sets, sets-eq}
+use Rattle.io.specs.Counts.{IsPrefixLen}
 use Rattle.record.specs.declared.page.Page.{Page as LentPage}
 use Rattle.record.specs.Page.{Page, page, printed, more, Put}
 use Rattle.record.specs.Lent.{on, Puts}
@@ -76,12 +77,27 @@ bytes_puts s {i} x h y = puts_as (rw (add-one, take-suc s i 0 h)) (both_puts x y
 
 -- ---- the whole text
 
-pub all_printed : {p : Page} {s lent : List ℕ} → 65536 ≤ length lent → Put s 65536 (page 0 lent) p → p ≡ printed s lent
+all_printed : {p : Page} {s lent : List ℕ} → 65536 ≤ length lent → Put s 65536 (page 0 lent) p → p ≡ printed s lent
 unfolding more printed
 all_printed {s = s} {lent} h x =
     let at = ap (λ q. q.at) x.text in
     let put : sets lent 0 s ≡ s ++ drop (length s) lent = sets-eq s lent 0 (omega arith) ∙ ap (λ k. s ++ drop k lent) (zero-add (length s)) in
     x.text ∙ rw (le-leb _ _ h, zero-add, put)
+
+-- by the page that was made of what was lent, and the page that is left
+pub printed_by : {p q : LentPage} {s lent text : List ℕ} {n : ℕ} → 65536 ≤ length lent → on p ≡ page 0 lent → Puts s 65536 p q → n ≡ q.at
+    → text ≡ q.text.now
+    → page n text ≡ printed s lent
+printed_by h empty x at text = rw (at, text) (all_printed h (rw empty at x.put))
+
+pub prefix_by : {p q : LentPage} {s lent text : List ℕ} {n : ℕ} → 65536 ≤ length lent → on p ≡ page 0 lent → Puts s 65536 p q → n ≡ q.at
+    → text ≡ q.text.now
+    → IsPrefixLen n text
+prefix_by {q = q} {lent = lent} h empty x at text =
+    let start = ap (λ r. r.at) empty in
+    let long = ap (λ r. length r.text) empty in
+    let few : q.at ≤ length q.text.now = omega (arith, x.put.end, x.size) in
+    rw (at, text) (few, sym (length-take-le _ _ few))
 
 pub none_printed : (s lent : List ℕ) → length lent < 65536 → page 0 lent ≡ printed s lent
 unfolding printed

@@ -12,8 +12,8 @@ impl From<Answer> for Stored {
         Stored(match a {
             Ok(passes) => [0, passes.unwrap_or(0), 0],
             Err(r) => {
-                let t = Told::from(r);
-                [t.number, t.row as u64, t.col as u64]
+                let Told { number, row, col } = Told::from(r);
+                [number, row as u64, col as u64]
             }
         })
     }

@@ -1,8 +1,8 @@
 -- `record::text::answer` meets its contract. Assumes nothing.
-use mathlib.Core.Path.{refl, sym}
+use mathlib.Core.Path.{refl, sym, ◌∙◌}
 use native.Mathlib.Omega.{arith}
-use lib.Seq.{length-take-le}
-use Rattle.record.proofs.Paging.{all_printed, none_printed}
+use Rattle.std.proofs.Common.{rules}
+use Rattle.record.proofs.Paging.{none_printed, printed_by, prefix_by}
 use Rattle.record.proofs.text.answer.Goals as goal
 
 pub returns-then-text-lt65536 : goal.returns-then-text-lt65536
@@ -11,5 +11,11 @@ returns-then-text-lt65536 c = record {
   prefix_len = (omega arith, refl);
 }
 
+-- the page is the lent slice all the way
 pub returns : goal.returns
-returns c = let h = c.text-1 in let k = c.new-arg-1 in let p = c.page-2-1 in let q = c.page-1 in ?
+returns c =
+    let same = sym (c.input.ensures.same_slice ∙ c.new-page.ensures.same_slice) in
+    record {
+      text_after = printed_by (omega arith) c.new-page.ensures.empty c.input.ensures c.len.ensures (search (rules, same));
+      prefix_len = prefix_by (omega arith) c.new-page.ensures.empty c.input.ensures c.len.ensures (search (rules, same));
+    }
