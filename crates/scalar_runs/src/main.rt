@@ -85,10 +85,10 @@ fn line(rt: &HostRuntime, w: u64) -> io::Result<()> {
     )
 }
 
-fn main(rt: HostRuntime) -> io::Result<()> {
-    println!(rt; "pattern sqrt signum modulus magnitude sign finite zero")?;
+// A write that fails is passed over.
+fn main(rt: HostRuntime) {
+    let _ = println!(rt; "pattern sqrt signum modulus magnitude sign finite zero");
     for w in PATTERNS {
-        line(&rt, w)?;
+        let _ = line(&rt, w);
     }
-    Ok(())
 }
