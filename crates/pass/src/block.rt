@@ -90,11 +90,12 @@ fn turn_t(basis: Option<Rotation>, t: &mut [f64], n: usize, k: usize)
     requires { Reaches n (k + 1) t.old }
     ensures { t.new ≡ turned_t n k basis t.old }
 {
-    if let Some(rot) = basis {
-        rot.inverse().rotate(t, n, k, k, n);
-        rot.rotate_rows(t, n, k, k + 2);
-        put(t, n, k + 1, k, 0.0);
-    }
+    let Some(rot) = basis else {
+        return;
+    };
+    rot.inverse().rotate(t, n, k, k, n);
+    rot.rotate_rows(t, n, k, k + 2);
+    put(t, n, k + 1, k, 0.0);
 }
 
 // Q turned by the same.
@@ -103,9 +104,10 @@ fn turn_q(basis: Option<Rotation>, q: &mut [f64], n: usize, k: usize)
     requires { k + 1 < n }
     ensures { q.new ≡ turned_q n k basis q.old }
 {
-    if let Some(rot) = basis {
-        rot.rotate_rows(q, n, k, n);
-    }
+    let Some(rot) = basis else {
+        return;
+    };
+    rot.rotate_rows(q, n, k, n);
 }
 
 // A window of two, at k: a no-op unless its rows are in the matrix.

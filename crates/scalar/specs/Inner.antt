@@ -1,6 +1,15 @@
 -- What the inner functions of the square root promise one another. Nothing outside this crate cites it.
 use Rattle.std.specs.Prelude.{◌≡◌, ℕ, ◌+◌, ◌-◌, ◌*◌, ◌/◌, ◌%◌, ◌^◌, ◌<◌, ◌≤◌, cond, nat_lt}
 
+-- the number that two words hold
+abbrev pub value_of : (hi lo : ℕ) → ℕ
+value_of hi lo = hi * 2 ^ 64 + lo
+
+-- two words that hold v, the upper one below `bound`
+pub record InTwo (v bound hi lo : ℕ) : Type 0 where
+  pub value : value_of hi lo ≡ v
+  pub high : hi < bound
+
 -- a positive number below `bound`
 pub record PositiveBelow (bound w : ℕ) : Type 0 where
   pub some : 0 < w

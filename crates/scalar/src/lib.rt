@@ -5,6 +5,7 @@
 mod bits;
 mod class;
 mod guess;
+mod halves;
 mod root;
 mod sign;
 mod table;

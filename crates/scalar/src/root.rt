@@ -12,6 +12,7 @@ ghost use Rattle.scalar.specs.Inner.{PositiveBelow, Scaled};
 
 use crate::bits::{bits_of, not_a_number, of_bits};
 use crate::guess::guess;
+use crate::halves::{Two, minus, plus, square};
 
 // 2^52: the leading digit of a normal number, and one step of the exponent's field.
 const LEADING: u64 = 0x10_0000_0000_0000;
@@ -79,15 +80,18 @@ fn scaled(w: u64) -> Place
     }
 }
 
-// Whether r is the whole number nearest to the root of X.
+// Whether r is seen to be the whole number nearest to the root of X: where 0 < X + r - r * r <= 2 * r. Below 0
+// that runs round, and its upper word is not 0.
 fn nearest(top: u64, r: u64) -> bool
     requires { r < 2 ^ 53 }
     ensures { result ≡ true → Near (top * 2 ^ 42) r }
 {
-    let x = u128::from(top) * 0x400_0000_0000;
-    let r = u128::from(r);
-    let square = r * r;
-    square < x + r && x <= square + r
+    let x = Two {
+        hi: top / 0x40_0000,
+        lo: top % 0x40_0000 * 0x400_0000_0000,
+    };
+    let left = minus(plus(x, r), square(r));
+    left.hi == 0 && 0 < left.lo && left.lo <= r * 2
 }
 
 // The whole number nearest to the root of X, digit by digit.

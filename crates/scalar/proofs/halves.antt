@@ -1,0 +1,2 @@
+-- Laws of numbers in two words.
+pub mod Laws
