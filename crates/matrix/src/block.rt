@@ -28,6 +28,7 @@ pub fn block_fits(n: usize, len: usize, row: usize, rows: usize, col: usize, col
 }
 
 // Row i of column j: a NaN where there is no such place.
+#[tactic(auto, using(crate::proofs::Fitting::by_test), unfolding(crate::specs::Entries::entry_of))]
 pub fn entry(t: &[f64], n: usize, i: usize, j: usize) -> f64
     ensures { result ≡ entry_of n i j t.now }
 {
@@ -38,6 +39,7 @@ pub fn entry(t: &[f64], n: usize, i: usize, j: usize) -> f64
 }
 
 // Puts x there: a no-op where there is no such place.
+#[tactic(auto, using(crate::proofs::Fitting::by_test, crate::proofs::Kernels::put_of_is))]
 pub fn put(t: &mut [f64], n: usize, i: usize, j: usize, x: f64)
     ensures { t.new ≡ put_of n i j x t.old }
 {
