@@ -4,7 +4,7 @@ use mathlib.Core.Path.{◌≡◌, refl, ◌∙◌}
 use mathlib.Core.List.{List}
 use native.Mathlib.Nat.{zero-add, sub-zero}
 use native.Mathlib.Omega.{arith}
-use borrow.Author.Tests.{le-leb}
+use borrow.Author.Tests.{le-leb, lt-leb}
 use lib.Dec.{leb}
 use lib.ListN.{length}
 use lib.Seq.{ext_get_or}
@@ -13,12 +13,20 @@ use Rattle.loops.specs.Part.{part, part_length, part_at}
 use Rattle.loops.specs.Rounded.{◌!◌}
 use Rattle.loops.specs.Tests.{cond_hold}
 use Rattle.matrix.specs.Vectors.{each_to, copied}
-use Rattle.matrix.proofs.Each.{each_to-length, each_to-at}
+use Rattle.matrix.proofs.Each.{each_to-length, each_to-at, rewriting_none, rewriting_done}
 
 -- where there is room
 pub copied_each : (c t : List Float) → length c ≤ length t → copied c t ≡ each_to (length c) (λ i _. c ! i) t
 unfolding copied
 copied_each c t h = rw (le-leb _ _ h)
+
+-- where there is none
+pub copied_not : (c t : List Float) → length t < length c → copied c t ≡ t
+unfolding copied
+copied_not c t h = rw (lt-leb _ _ h)
+
+-- what the check of `copy_from` takes
+pub ruleset copying = (rewriting_none, rewriting_done, copied_each, copied_not)
 
 pub copied-length : (c t : List Float) → length (copied c t) ≡ length t
 unfolding copied

@@ -66,6 +66,9 @@ rewriting_more {k} {g} {t₀} {i} {t} d h = record {
 pub rewriting_done : {k : ℕ} {g : ℕ → Float → Float} {t₀ : List Float} {i : ℕ} {t : List Float} → Rewriting k g t₀ i t → k ≤ i → t ≡ each_to k g t₀
 rewriting_done {k} {g} {t₀} {i} d h = d.done ∙ each_to_done i k g t₀ d.upto h
 
+-- what the checks of such loops take
+pub ruleset rewriting = (rewriting_none, rewriting_done)
+
 -- ---- one number throughout
 
 pub filled-length : (x : Float) (t : List Float) → length (filled x t) ≡ length t

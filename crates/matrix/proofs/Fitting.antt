@@ -68,3 +68,6 @@ from_column_0 n len r1 c1 e = rw zero-add at e
 
 pub from_row_0 : {r : Bool} (n len r1 c1 : ℕ) → r ≡ block_fits n len (0 + r1) c1 → r ≡ block_fits n len r1 c1
 from_row_0 n len r1 c1 e = rw zero-add at e
+
+-- what the checks of `entry` and `put` take
+pub ruleset by_test = (spot, inside, outside)

@@ -3,6 +3,7 @@
 -- `entry_of` and `put_of`, the total read and write, have theirs here too. Assumes nothing.
 use Prim.Native.Nat.{ℕ, ◌+◌, ◌*◌, ◌≤◌, ◌<◌}
 use mathlib.Core.Path.{◌≡◌, refl, sym, ◌∙◌}
+use mathlib.Core.Bool.{cond}
 use mathlib.Core.List.{List}
 use native.Mathlib.Omega.{arith}
 use lib.ListN.{length, set}
@@ -80,3 +81,9 @@ put_of_frame n i j x t i' j' l out = on_entries_frame _ _ _ _ _ _ _ i' j' l out
 pub put_of_there : (n i j : ℕ) (x : Float) (t : List Float) → n ≤ 64 → length t ≡ n * n → i < n → j < n → put_of n i j x t ! place n i j ≡ x
 unfolding put_of
 put_of_there n i j x t o s h k = on_entries-at n i (i + 1) j (j + 1) (λ _ _ _. x) t i j o s (omega arith) (omega arith) (omega arith)
+
+-- a place rewritten where there is one
+pub put_of_is : (n i j : ℕ) (x : Float) (t : List Float)
+    → put_of n i j x t ≡ cond (block_fits n (length t) (i + 1) (j + 1)) (set t (place n i j) x) t
+unfolding put_of on_entries
+put_of_is n i j x t = rw in_block-one

@@ -2,6 +2,7 @@
 ghost use Rattle.std.specs.Prelude.{◌≡◌};
 ghost use Rattle.matrix.specs.Vectors.{scaled, unscaled};
 
+#[tactic(auto, using(crate::proofs::Each::rewriting), unfolding(crate::specs::Vectors::scaled))]
 pub fn scale_mut(t: &mut [f64], x: f64)
     ensures { t.new ≡ scaled x t.old }
 {
@@ -11,6 +12,7 @@ pub fn scale_mut(t: &mut [f64], x: f64)
 }
 
 // One division for each: no reciprocal.
+#[tactic(auto, using(crate::proofs::Each::rewriting), unfolding(crate::specs::Vectors::unscaled))]
 pub fn unscale_mut(t: &mut [f64], x: f64)
     ensures { t.new ≡ unscaled x t.old }
 {

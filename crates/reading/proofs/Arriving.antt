@@ -1,9 +1,14 @@
 -- What one read comes to, by what is tested of its answer. Assumes nothing.
-use Rattle.std.proofs.Common.{◌≡◌, ℕ, zero, suc, ◌+◌, ◌<◌, ◌≤◌, min, arith}
-use Rattle.std.specs.Prelude.{Ok, Err, Some}
+use Rattle.std.proofs.Common.{◌≡◌, refl, ℕ, zero, suc, ◌+◌, ◌<◌, ◌≤◌, min, arith}
+use Rattle.std.specs.Prelude.{◌≢◌, Ok, Err, Some}
 use Rattle.std.specs.declared.result.Result.{Result}
 use Rattle.std.specs.declared.io.Error.{Error}
 use Rattle.reading.specs.Reading.{after_read}
+
+pub some_came : (done room n : ℕ) → n ≢ 0 → after_read done room (Ok n) ≡ Ok (Some (done + min n room))
+unfolding after_read
+some_came done room zero h = absurd (h refl)
+some_came done room (suc n) h = refl
 
 -- a read that brings more brings some, and no more than there is room for
 pub record Came (done room more : ℕ) : Type 0 where

@@ -63,3 +63,6 @@ module _ (buf : List ℕ) (done room : ℕ) (got : Result ℕ Error) {y : Result
     failing e =
         let all = going.reads (made ∷ []) in
         record { reads = all.0; made = all.1 ∙ on_broken made [] done buf space (decided ∙ e) }
+
+-- what the check of `fill` takes
+pub ruleset going = (arrived, left_size, filled)

@@ -13,6 +13,7 @@ use std::io::Read;
 
 // How many bytes are there after one read: `done` were there, there was room for `room` more, and the read answered
 // `got`. None at the end of the input.
+#[tactic(auto, using(crate::proofs::Arriving::some_came), unfolding(crate::specs::Reading::after_read))]
 fn after_read(done: usize, room: usize, got: io::Result<usize>) -> io::Result<Option<usize>>
     requires { done + room < 2 ^ 64 }
     ensures { result ≡ after_read done room got }
@@ -35,6 +36,7 @@ fn put(buf: &mut [u8], done: usize, piece: &[u8], n: usize)
 
 // How many bytes all reads bring. A read is lent a piece and not `buf`, and the bytes that its answer counts are
 // copied: what else it does to the piece does not reach `buf`.
+#[tactic(auto, using(crate::proofs::Going::going))]
 pub fn fill<R: Read>(source: &mut R, buf: &mut [u8]) -> io::Result<usize>
     ensures { Filling buf.old result buf.new }
 {

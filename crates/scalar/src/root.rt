@@ -42,10 +42,10 @@ fn lifted(w: u64) -> Place
     ensures { Scaled w result.top result.h result.like }
 {
     let mut top = w * 1024;
-    let mut h = 26u64;
+    let mut h = 26;
     while top < 0x4000_0000_0000_0000 {
-        top = top * 4;
-        h = h - 1;
+        top *= 4;
+        h -= 1;
     }
     if top < 0x8000_0000_0000_0000 {
         return Place {

@@ -1,7 +1,7 @@
 -- Each read stands behind those that were made before it.
 use Rattle.std.proofs.Common.{refl, ap, ◌∙◌, Ok, arith}
 use Rattle.std.proofs.lemmas.Result.{err_from_is_err_and}
-use Rattle.reading.proofs.Going.{arrived, left_size, again, ending, failing, filled}
+use Rattle.reading.proofs.Going.{again, ending, failing}
 use Rattle.reading.proofs.fill.Goals as goal
 
 pub loop-done-init : goal.loop-done-init
@@ -18,32 +18,7 @@ returns-in_default g c =
     ending _ _ _ _ (omega arith) c.min-room.ensures c.after_read.ensures c.loop-done.invariant c.read-got.new.buf
     c.read-got.auto.buf (c.in_ok-more.was ∙ ap Ok c.in_default.is)
 
-pub overflow_sub-more : goal.overflow_sub-more
-overflow_sub-more g c =
-    let some = arrived _ _ _ _ (omega arith) c.min-room.ensures c.after_read.ensures (c.in_ok-more.was ∙ ap Ok c.in-Some.is) in
-    omega (arith, some)
-
-pub put-requires-clause-fits_room : goal.put-requires-clause-fits_room
-put-requires-clause-fits_room g c =
-    let some = arrived _ _ _ _ (omega arith) c.min-room.ensures c.after_read.ensures (c.in_ok-more.was ∙ ap Ok c.in-Some.is) in
-    omega (arith, some)
-
-pub put-requires-clause-fits_piece : goal.put-requires-clause-fits_piece
-put-requires-clause-fits_piece g c =
-    let some = arrived _ _ _ _ (omega arith) c.min-room.ensures c.after_read.ensures (c.in_ok-more.was ∙ ap Ok c.in-Some.is) in
-    let size = left_size _ _ _ _ (omega arith) c.min-room.ensures c.after_read.ensures c.loop-done.invariant
-    c.read-got.new.buf c.read-got.auto.buf in
-    omega (arith, some, size)
-
-pub loop-done-smaller : goal.loop-done-smaller
-loop-done-smaller g c =
-    let some = arrived _ _ _ _ (omega arith) c.min-room.ensures c.after_read.ensures (c.in_ok-more.was ∙ ap Ok c.in-Some.is) in
-    omega (arith, some)
-
 pub loop-done-preserved : goal.loop-done-preserved
 loop-done-preserved g c =
     again _ _ _ _ (omega arith) c.min-room.ensures c.after_read.ensures c.loop-done.invariant c.read-got.new.buf
     c.read-got.auto.buf (c.in_ok-more.was ∙ ap Ok c.in-Some.is) c.put.ensures (omega arith)
-
-pub returns : goal.returns
-returns g c = filled c.loop-done.invariant (omega arith)

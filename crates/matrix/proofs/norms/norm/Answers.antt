@@ -1,7 +1,0 @@
--- `matrix::norms::norm` meets its contract. Assumes nothing.
-use Rattle.matrix.specs.Vectors.{norm_of}
-use Rattle.matrix.proofs.norms.norm.Goals as goal
-
-pub returns : goal.returns
-unfolding norm_of
-returns c = rw (c.sqrt.ensures, c.norm_squared.ensures)
