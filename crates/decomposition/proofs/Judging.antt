@@ -1,5 +1,4 @@
 -- A run and what is said of it, told of the pieces that the code has in hand. Assumes nothing.
-use Rattle.schur.specs.Run.{Ran}
 use Prim.Native.Nat.{ℕ}
 use mathlib.Core.Bool.{true}
 use mathlib.Core.Path.{◌≡◌}
@@ -10,7 +9,7 @@ use Rattle.loops.specs.Constants.{zero}
 use Rattle.matrix.specs.Vectors.{filled}
 use Rattle.pass.specs.declared.setting.Setting.{Setting}
 use Rattle.pass.specs.Pair.{Pair}
-use Rattle.schur.specs.Run.{Left, left, run_fits, ran_of, run_of, work_after}
+use Rattle.schur.specs.Run.{Ran, Left, left, run_fits, ran_of, run_of, work_after}
 use Rattle.decomposition.specs.Decomposition.{outcome, Settlement, decided, judged}
 
 -- the run on arguments that fit

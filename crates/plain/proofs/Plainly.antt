@@ -1,7 +1,6 @@
 -- The plain entry, told of the pieces that the code has in hand. Assumes nothing.
 use Rattle.std.specs.Prelude.{Err, None, Ok, Option, Some}
 use Rattle.std.specs.Option.{ok_or}
-use Rattle.refusal.specs.Refusal.{Checked, passed}
 use Prim.Native.Nat.{ℕ}
 use mathlib.Core.Bool.{Bool, true, false, not}
 use mathlib.Core.Path.{◌≡◌, refl, sym, ap, ◌∙◌}
@@ -21,7 +20,7 @@ use Rattle.pass.specs.declared.block.Values.{Values}
 use Rattle.schur.specs.Run.{Left, run_fits, ran_of, run_of, work_after}
 use Rattle.refusal.specs.declared.refusal.Refusal.{Refusal}
 use Rattle.refusal.specs.declared.refusal.Refusal.TheVariants.{ResultNotFinite, ComplexEigenvalues}
-use Rattle.refusal.specs.Refusal.{at, refuse_at, ◌next◌, if_passed}
+use Rattle.refusal.specs.Refusal.{Checked, passed, at, refuse_at, ◌next◌, if_passed}
 use Rattle.refusal.specs.Checks.{order_checks, given_checks}
 use Rattle.refusal.proofs.ChecksInTurn.{next_before}
 use Rattle.refusal.proofs.PassedChecks.{order_then, length_passed, length_then}
@@ -30,9 +29,8 @@ use Rattle.decomposition.specs.Decomposition.{Outcome, outcome, Settlement, deci
 use Rattle.decomposition.proofs.CheckedArguments.{sizes_fit}
 use Rattle.eigenvalues.specs.Readers.{pair_check, diagonal, Read, read, left_by}
 use Rattle.eigenvalues.proofs.DiagonalSearch.{place_here, place_none}
-use Rattle.plain.specs.Plain.{plain_lengths, Sized, both_of, plain_two, plain_budget, plain_asked, plain_ran}
 use Rattle.plain.specs.Plain.{complex_checked, plain_run, plain_read, plain_left}
-use Rattle.plain.specs.Plain.{InPlace, in_place, plain_begun, plain, kept}
+use Rattle.plain.specs.Plain.{plain_lengths, Sized, both_of, plain_two, plain_budget, plain_asked, plain_ran, InPlace, in_place, plain_begun, plain, kept}
 
 -- ---- what the checks of the order and the lengths tell
 
