@@ -3,7 +3,7 @@
 // Order 65 has its lengths too.
 const ROOM: usize = 4225;
 
-pub(crate) type Room = [f64; ROOM];
+type Room = [f64; ROOM];
 
 #[derive(Drop)]
 pub(crate) struct Slots([Room; 6]);
@@ -31,7 +31,7 @@ impl Slots {
     // What lent memory holds before a call: the numbers of the last slot from this place on, and from its first behind
     // its last.
     pub(crate) fn filled(&self, from: usize) -> Room {
-        let [.., mut room] = self.0;
+        let mut room = self.0[5];
         room.rotate_left(from % ROOM);
         room
     }
