@@ -1,6 +1,6 @@
 // A case: a call, and what it must come to.
 use crate::answer::Stored;
-use crate::slots::{Room, Slots};
+use crate::slots::Slots;
 use calls::{Call, Entry};
 use std::fmt;
 
@@ -35,9 +35,9 @@ struct Lent {
 impl Lent {
     // The first place that does not hold what is expected. For a slot that there is not, 9999 is told, a place that no
     // slice has.
-    fn unlike(self, came: &[f64], before: &Room, slots: &Slots) -> Option<usize> {
+    fn unlike(self, came: &[f64], slots: &Slots) -> Option<usize> {
         match self.left {
-            Left::AsBefore => unlike(came, before),
+            Left::AsBefore => unlike(came, &slots.filled(self.from)),
             Left::Nan => other_than(came, 0x7ff8_0000_0000_0000),
             Left::Zero => other_than(came, 0),
             Left::Slot(k) => match slots.given(k) {
@@ -124,12 +124,9 @@ impl Case {
     pub(crate) fn run(&self, slots: &Slots) -> Option<Outcome> {
         let given = slots.given(self.slot)?.get(..self.count)?;
         let [x, y, z] = self.lent;
-        let before = [
-            slots.filled(x.from),
-            slots.filled(y.from),
-            slots.filled(z.from),
-        ];
-        let [mut in_x, mut in_y, mut in_z] = before;
+        let mut in_x = slots.filled(x.from);
+        let mut in_y = slots.filled(y.from);
+        let mut in_z = slots.filled(z.from);
         let in_x = in_x.get_mut(..x.len)?;
         let in_y = in_y.get_mut(..y.len)?;
         let in_z = in_z.get_mut(..z.len)?;
@@ -140,9 +137,9 @@ impl Case {
             differences: Differences {
                 answer: (came != self.answer).then_some(came),
                 places: [
-                    x.unlike(in_x, &before[0], slots),
-                    y.unlike(in_y, &before[1], slots),
-                    z.unlike(in_z, &before[2], slots),
+                    x.unlike(in_x, slots),
+                    y.unlike(in_y, slots),
+                    z.unlike(in_z, slots),
                 ],
             },
         })

@@ -3,7 +3,7 @@
 // Order 65 has its lengths too.
 const ROOM: usize = 4225;
 
-pub(crate) type Room = [f64; ROOM];
+type Room = [f64; ROOM];
 
 #[derive(Drop)]
 pub(crate) struct Slots([Room; 6]);
@@ -31,8 +31,12 @@ impl Slots {
     // What lent memory holds before a call: the numbers of the last slot from this place on, and from its first behind
     // its last.
     pub(crate) fn filled(&self, from: usize) -> Room {
-        let [.., mut room] = self.0;
-        room.rotate_left(from % ROOM);
+        let slot = &self.0[5][..];
+        let (behind, first) = slot.split_at(from % ROOM);
+        let mut room = [0.0; ROOM];
+        let (front, back) = room.split_at_mut(first.len());
+        front.copy_from_slice(first);
+        back.copy_from_slice(behind);
         room
     }
 }
