@@ -30,6 +30,7 @@ fn is_small(t: &[f64], n: usize, eps: f64, i: usize) -> bool
 }
 
 // The end, from `end` upward: past every entry that passes for zero, which becomes +0.
+#[tactic(auto, using(crate::proofs::Turns::turns), unfolding(crate::proofs::Turns::opened))]
 fn delimit_end(t: &mut [f64], n: usize, eps: f64, end: usize) -> usize
     requires { Square n t.old × (end < n) }
     ensures { EndFound n eps end t.old result t.new }
@@ -53,6 +54,7 @@ fn is_cut(t: &[f64], n: usize, eps: f64, i: usize) -> bool
 }
 
 // The start of the window that ends at `end`.
+#[tactic(auto, using(crate::proofs::Turns::turns), unfolding(crate::proofs::Turns::opened))]
 fn delimit_start(t: &[f64], n: usize, eps: f64, end: usize) -> usize
     requires { Square n t.now × (0 < end) × (end < n) }
     ensures { StartFound n eps end t.now result }
@@ -67,6 +69,7 @@ fn delimit_start(t: &[f64], n: usize, eps: f64, end: usize) -> usize
 
 // The window below or at `end`. Entries that pass for zero on the way become +0; a window that has closed
 // is 0 0.
+#[tactic(auto, using(crate::proofs::Turns::turns), unfolding(crate::proofs::Turns::opened))]
 fn delimit_here(t: &mut [f64], n: usize, eps: f64, end: usize) -> Window
     requires { Square n t.old × (end < n) }
     ensures { (delimited result t.new ≡ delimit_here n eps end t.old) × (result.end ≤ end)
@@ -84,6 +87,7 @@ fn delimit_here(t: &mut [f64], n: usize, eps: f64, end: usize) -> Window
 }
 
 // The same for every argument: a no-op that answers a closed window unless t has a row `end`.
+#[tactic(auto, using(matrix::proofs::Fitting::fits), unfolding(crate::specs::Window::delimit_of))]
 pub fn delimit_subproblem(t: &mut [f64], n: usize, eps: f64, end: usize) -> Window
     ensures { (delimited result t.new ≡ delimit_of n eps end t.old) × (result.end ≤ end)
         × (result.start ≤ result.end) }
