@@ -6,7 +6,7 @@ ghost use Rattle.loops.specs.First.{first_from};
 ghost use Rattle.scalar.specs.Class.{is_finite};
 ghost use Rattle.matrix.specs.Fits.{block_fits};
 ghost use Rattle.refusal.specs.Search.{first_row, first_place, spoils, first_not_finite, first_spoiling};
-ghost use Rattle.refusal.specs.Inner.{found};
+ghost use Rattle.refusal.specs.Inner.{IsSquare, found};
 
 use crate::refusal::Place;
 
@@ -83,7 +83,8 @@ pub fn first_not_finite(t: &[f64], n: usize) -> Option<Place>
 // Whether the entry just below the diagonal in column j spoils the shape: it is not 0, and neither is the
 // one in the column before.
 fn just_below_spoils(t: &[f64], n: usize, j: usize) -> bool
-    requires { (n ≤ 64) × (length t.now ≡ n * n) × (j + 1 < n) }
+    requires square { IsSquare n t.now }
+    requires column { j + 1 < n }
     ensures { result ≡ spoils n t.now (j + 1) j }
 {
     if j == 0 || scalar::is_zero(matrix::entry(t, n, j + 1, j)) {
@@ -94,7 +95,8 @@ fn just_below_spoils(t: &[f64], n: usize, j: usize) -> bool
 
 // The first row of column j, from two below the diagonal on, that is not 0.
 fn row_far_below(t: &[f64], n: usize, j: usize) -> Option<usize>
-    requires { (n ≤ 64) × (length t.now ≡ n * n) × (j + 1 < n) }
+    requires square { IsSquare n t.now }
+    requires column { j + 1 < n }
     ensures { result ≡ found n (first_from (λ i. spoils n t.now i j) n (j + 2)) }
 {
     (j + 2..n).find(|i| !scalar::is_zero(t[j * n + *i]))
@@ -102,7 +104,8 @@ fn row_far_below(t: &[f64], n: usize, j: usize) -> Option<usize>
 
 // The first row of column j that spoils the shape.
 fn row_spoiling(t: &[f64], n: usize, j: usize) -> Option<usize>
-    requires { (n ≤ 64) × (length t.now ≡ n * n) × (j < n) }
+    requires square { IsSquare n t.now }
+    requires column { j < n }
     ensures { result ≡ found n (first_row (spoils n t.now) n j) }
 {
     if j + 1 == n {
