@@ -5,9 +5,9 @@ ghost use Rattle.loops.specs.Constants.{one};
 ghost use Rattle.matrix.specs.Vectors.{largest, filled};
 ghost use Rattle.hessenberg.specs.Unpacked.{unpacked_q};
 ghost use Rattle.pass.specs.Pair.{pair, on_q};
-ghost use Rattle.schur.specs.Run.{running, turn_two, turn_more, turn_of, run_from, scaled_down, reduced_pair};
+ghost use Rattle.schur.specs.Run.{after, turn_two, turn_more, turn_of, run_from, scaled_down, reduced_pair};
 ghost use Rattle.schur.specs.Run.{opened, left, answered, run_fits, ran_of, run_of, work_after};
-ghost use Rattle.schur.specs.Inner.{Square, Turnable, Turned, PassCounted, Begun};
+ghost use Rattle.schur.specs.Inner.{Square, Turnable, Same, Turned, Begun, stands, matrices};
 
 use pass::Setting;
 use window::{Window, delimit_subproblem};
@@ -26,76 +26,79 @@ pub enum Stopped {
     Unfit,
 }
 
-impl State {
+// A run under way: T and Q, what is asked for, and where it stands.
+#[derive(Drop)]
+struct Progress<'a> {
+    t: &'a mut [f64],
+    q: &'a mut [f64],
+    asked: Setting,
+    state: State,
+}
+
+impl Progress<'_> {
     // A pass has been made: T is delimited from `end`, and the pass counts.
     #[tactic(auto, unfolding(crate::specs::Run::after, crate::specs::Run::delimiting))]
-    fn after(self, t: &mut [f64], asked: Setting, end: usize) -> State
-        requires { self.passes < 18446744073709551615 }
-        ensures { PassCounted asked end self t.old result t.new }
+    fn count_pass(&mut self, end: usize)
+        requires { Turnable 1 self.old × (end < self.old.asked.order) }
+        ensures { Turned self.old (after self.old.asked end self.old.state (matrices self.old)) self.new }
     {
-        let window = delimit_subproblem(t, asked.order, asked.tolerance, end);
-        State {
-            window,
-            passes: self.passes + 1,
-        }
+        self.state.window = delimit_subproblem(self.t, self.asked.order, self.asked.tolerance, end);
+        self.state.passes += 1;
     }
 
     // A window of two. After the one at the beginning of the matrix the run ends, and that is not counted.
     #[tactic(auto, unfolding(crate::specs::Run::turn_two))]
-    fn turn_two(self, t: &mut [f64], q: &mut [f64], asked: Setting) -> State
-        requires { Turnable asked 1 t.old self × (self.window.start + 1 ≡ self.window.end) }
-        ensures { Turned asked self (turn_two asked self (pair t.old q.old)) result
-            (pair t.new q.new) }
+    fn turn_two(&mut self)
+        requires { Turnable 1 self.old × (self.old.state.window.start + 1 ≡ self.old.state.window.end) }
+        ensures { Turned self.old (turn_two self.old.asked self.old.state (matrices self.old)) self.new }
     {
-        let Window { start, end } = self.window;
-        pass::split(t, q, asked, start);
+        let Window { start, end } = self.state.window;
+        pass::split(self.t, self.q, self.asked, start);
         if end <= 2 {
-            return State {
-                window: Window { start: 0, end: 0 },
-                ..self
-            };
+            self.state.window = Window { start: 0, end: 0 };
+            return;
         }
-        self.after(t, asked, end - 2)
+        self.count_pass(end - 2);
     }
 
     // A window of three or more.
     #[tactic(auto, unfolding(crate::specs::Run::turn_more))]
-    fn turn_more(self, t: &mut [f64], q: &mut [f64], asked: Setting) -> State
-        requires { Turnable asked 1 t.old self × (self.window.start + 2 ≤ self.window.end) }
-        ensures { Turned asked self (turn_more asked self (pair t.old q.old)) result
-            (pair t.new q.new) }
+    fn turn_more(&mut self)
+        requires { Turnable 1 self.old × (self.old.state.window.start + 2 ≤ self.old.state.window.end) }
+        ensures { Turned self.old (turn_more self.old.asked self.old.state (matrices self.old)) self.new }
     {
-        pass::double_shift(t, q, asked, self.window);
-        self.after(t, asked, self.window.end)
+        let window = self.state.window;
+        pass::double_shift(self.t, self.q, self.asked, window);
+        self.count_pass(window.end);
     }
 
     // One turn over an open window.
     #[tactic(auto, unfolding(crate::specs::Run::turn_of))]
-    fn turn(self, t: &mut [f64], q: &mut [f64], asked: Setting) -> State
-        requires { Turnable asked 1 t.old self × (self.window.start < self.window.end) }
-        ensures { Turned asked self (turn_of asked (running self (pair t.old q.old))) result
-            (pair t.new q.new) }
+    fn turn(&mut self)
+        requires { Turnable 1 self.old × (self.old.state.window.start < self.old.state.window.end) }
+        ensures { Turned self.old (turn_of self.old.asked (stands self.old)) self.new }
     {
-        if self.window.end <= self.window.start + 1 {
-            return self.turn_two(t, q, asked);
+        let Window { start, end } = self.state.window;
+        if end <= start + 1 {
+            self.turn_two();
+        } else {
+            self.turn_more();
         }
-        self.turn_more(t, q, asked)
     }
 
     // Turn after turn, at most `budget` of them.
-    fn run_from(self, t: &mut [f64], q: &mut [f64], asked: Setting, budget: u64) -> State
-        requires { Turnable asked budget t.old self }
-        ensures { running result (pair t.new q.new)
-            ≡ run_from asked budget (running self (pair t.old q.old)) }
+    fn run(&mut self, budget: u64)
+        requires { Turnable budget self.old }
+        ensures run { stands self.new ≡ run_from self.old.asked budget (stands self.old) }
+        ensures same { Same self.old self.new }
     {
-        let mut s = self;
         for _ in 0..budget {
-            if s.window.start == s.window.end {
-                return s;
+            let Window { start, end } = self.state.window;
+            if start == end {
+                return;
             }
-            s = s.turn(t, q, asked);
+            self.turn();
         }
-        s
     }
 }
 
@@ -169,12 +172,19 @@ fn run_large(
         (run_from asked budget (opened asked (pair t.old q.old) work.old)) }
 {
     let begun = begin(t, q, asked, work);
-    let s = begun.state.run_from(t, q, asked, budget);
-    if s.passes == budget {
-        return Err(Stopped::BudgetReached(s.window));
+    let mut progress = Progress {
+        t,
+        q,
+        asked,
+        state: begun.state,
+    };
+    progress.run(budget);
+    let State { window, passes } = progress.state;
+    if passes == budget {
+        return Err(Stopped::BudgetReached(window));
     }
-    matrix::scale_mut(t, begun.amax);
-    Ok(s.passes)
+    matrix::scale_mut(progress.t, begun.amax);
+    Ok(passes)
 }
 
 // Q of order 1, where it is wanted.

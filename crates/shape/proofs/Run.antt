@@ -19,7 +19,7 @@ use Rattle.loops.proofs.Until.{until_walk}
 use Rattle.scalar.specs.Class.{is_zero, is_finite}
 use Rattle.matrix.specs.Vectors.{largest, scaled, zeros}
 use Rattle.matrix.proofs.Each.{each_to-at, zeros-length}
-use Rattle.hessenberg.specs.Reduced.{work_fits, reduced}
+use Rattle.hessenberg.specs.Reduced.{reduced}
 use Rattle.hessenberg.specs.Unpacked.{unpacked_h}
 use Rattle.hessenberg.proofs.Frames.{reduced-length, reduced_work, unpacked_h-length, unpacked_h-zero}
 use Rattle.pass.specs.declared.setting.Setting.{Setting}
@@ -51,7 +51,6 @@ turn_sound asked r small still none z =
 -- H is +0 two or more places below its diagonal, and has no row below the last
 opened_shaped : (n : ℕ) (t w : List Float) → n ≤ 64 → 1 ≤ n → length t ≡ n * n → length w ≡ 2 * n
     → ShapedFrom n (n - 1) (unpacked_h n (reduced n t w).work (reduced n t w).matrix)
-unfolding work_fits
 opened_shaped n t w small some size room =
     let kept : length (reduced n t w).matrix ≡ n * n = reduced-length n t w ∙ size in
     record {
