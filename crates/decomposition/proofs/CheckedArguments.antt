@@ -1,6 +1,5 @@
 -- Where all checks of the arguments have passed: what each of them tells, and that the run's own test holds then. Assumes nothing.
 use Rattle.std.specs.Prelude.{None}
-use Rattle.refusal.specs.Refusal.{Checked, passed}
 use Prim.Native.Nat.{ℕ, ◌*◌, ◌≤◌}
 use mathlib.Core.Bool.{true}
 use mathlib.Core.Path.{◌≡◌, refl, sym, ◌∙◌}
@@ -12,7 +11,7 @@ use lib.Ieee.{Float}
 use Rattle.loops.specs.Constants.{zero}
 use Rattle.matrix.specs.Vectors.{filled}
 use Rattle.matrix.proofs.Fitting.{both, fitting}
-use Rattle.refusal.specs.Refusal.{refuse, ◌next◌}
+use Rattle.refusal.specs.Refusal.{Checked, passed, refuse, ◌next◌}
 use Rattle.refusal.specs.Search.{first_not_finite}
 use Rattle.refusal.proofs.ChecksInTurn.{next_passed, refuse_passed}
 use Rattle.refusal.proofs.PassedChecks.{order_passed, order_passes, length_passed, matrices_passed, entries_passed, entries_passes}

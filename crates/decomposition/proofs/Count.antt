@@ -2,9 +2,6 @@
 -- and where the checks before the run pass, 7 is given exactly if the definition's count is the budget or more. Below the budget the answer is the run's own,
 -- whatever the budget. Assumes nothing.
 use Rattle.std.specs.Prelude.{Err, Ok}
-use Rattle.refusal.specs.Refusal.{Checked, passed}
-use Rattle.decomposition.specs.Decomposition.{Decomposed}
-use Rattle.schur.specs.Run.{Ran}
 use Prim.Native.Nat.{ℕ, ◌<◌, ◌≤◌}
 use mathlib.Core.Path.{◌≡◌, refl, sym, ap, ◌∙◌, subst}
 use mathlib.Core.List.{List}
@@ -12,16 +9,16 @@ use native.Mathlib.Omega.{arith}
 use lib.ListN.{length}
 use lib.Ieee.{Float}
 use Rattle.refusal.specs.declared.refusal.Refusal.{Refusal}
-use Rattle.refusal.specs.Refusal.{told_of, without_place}
+use Rattle.refusal.specs.Refusal.{Checked, passed, told_of, without_place}
 use Rattle.refusal.proofs.ChecksInTurn.{refused_not_passed, Only, only_next, only_at}
 use Rattle.refusal.proofs.PassedChecks.{only_asked}
 use Rattle.pass.specs.declared.setting.Setting.{Setting}
 use Rattle.pass.specs.Pair.{Pair, pair}
-use Rattle.schur.specs.Run.{Left, ran_of, largest_budget, count_of}
+use Rattle.schur.specs.Run.{Ran, Left, ran_of, largest_budget, count_of}
 use Rattle.schur.proofs.Counting.{Tells, ended, reached, ran_tells, below_ended, budget_not_felt}
 use Rattle.schur.proofs.RunAnswers.{RunFits}
 use Rattle.decomposition.specs.Checks.{argument_checks, result_checks}
-use Rattle.decomposition.specs.Decomposition.{verdict, passes_of, judged, entry_of, decomposed_told, BelowBudget}
+use Rattle.decomposition.specs.Decomposition.{Decomposed, verdict, passes_of, judged, entry_of, decomposed_told, BelowBudget}
 use Rattle.decomposition.proofs.CheckedArguments.{Sizes, all_right, some_budget, most_budget, sizes_run}
 use Rattle.decomposition.proofs.Touched.{run_judged, accepted_passed, as_run, accepted_run, as_refused, refused_run}
 

@@ -1,7 +1,6 @@
 -- An accepted T and its count are the same whether Q is wanted or not, and whatever is lent for it (document 01, step 7). Assumes nothing.
 use Rattle.std.specs.Prelude.{Err, Ok}
 use Rattle.refusal.specs.Refusal.{passed}
-use Rattle.schur.specs.Run.{Ran}
 use Prim.Native.Nat.{ℕ}
 use mathlib.Core.Bool.{Bool, true, false, false≢true}
 use mathlib.Core.Path.{◌≡◌, refl, sym, ap, ◌∙◌}
@@ -15,7 +14,7 @@ use Rattle.pass.specs.declared.setting.Setting.{Setting}
 use Rattle.pass.specs.Setting.{wanting}
 use Rattle.pass.specs.Pair.{Pair, pair}
 use Rattle.schur.specs.declared.run.Stopped.TheVariants.{BudgetReached, Unfit}
-use Rattle.schur.specs.Run.{ran_of}
+use Rattle.schur.specs.Run.{Ran, ran_of}
 use Rattle.schur.proofs.Independent.{Same, ran_same}
 use Rattle.schur.proofs.RunAnswers.{RunFits}
 use Rattle.decomposition.specs.Checks.{all_lengths, result_checks}

@@ -3,7 +3,6 @@
 -- nothing.
 use Rattle.std.specs.Prelude.{Err, Ok}
 use Rattle.refusal.specs.Refusal.{Checked, passed}
-use Rattle.schur.specs.Run.{Ran}
 use Prim.Native.Nat.{ℕ, ◌*◌}
 use mathlib.Core.Bool.{Bool, true, false}
 use mathlib.Core.Path.{◌≡◌, refl, sym, ap, ap₂, subst, ◌∙◌}
@@ -17,7 +16,7 @@ use Rattle.refusal.specs.Checks.{only_if}
 use Rattle.pass.specs.declared.setting.Setting.{Setting}
 use Rattle.pass.specs.Pair.{Pair, pair}
 use Rattle.schur.specs.declared.run.Stopped.TheVariants.{BudgetReached, Unfit}
-use Rattle.schur.specs.Run.{Left, left, ran_of}
+use Rattle.schur.specs.Run.{Ran, Left, left, ran_of}
 use Rattle.schur.proofs.Lent.{Lent, Unfelt, lent_not_felt}
 use Rattle.decomposition.specs.Checks.{all_lengths, argument_checks, result_checks}
 use Rattle.decomposition.specs.Decomposition.{Outcome, verdict, passes_of, nan_filled, settled, decided, judged, entry_of, decomposition_of}

@@ -1,7 +1,6 @@
 -- What an entry promises beside its equation, told of what it has answered and left: an accepted count lies below the budget, and an accepted T has the shape.
 -- And what a refusal before the run leaves. Assumes nothing.
 use Rattle.std.specs.Prelude.{Err}
-use Rattle.decomposition.specs.Decomposition.{Decomposed}
 use Prim.Native.Nat.{ℕ}
 use mathlib.Core.Path.{◌≡◌, sym, ap, ◌∙◌}
 use mathlib.Core.List.{List}
@@ -10,7 +9,7 @@ use lib.Ieee.{Float}
 use Rattle.pass.specs.declared.setting.Setting.{Setting}
 use Rattle.pass.specs.Pair.{Pair}
 use Rattle.refusal.specs.declared.refusal.Refusal.{Refusal}
-use Rattle.decomposition.specs.Decomposition.{outcome, decomposition_of, BelowBudget, Shaped}
+use Rattle.decomposition.specs.Decomposition.{Decomposed, outcome, decomposition_of, BelowBudget, Shaped}
 use Rattle.decomposition.proofs.CheckedArguments.{all_lent}
 use Rattle.decomposition.proofs.Count.{count_below}
 use Rattle.decomposition.proofs.Shape.{shape_held}

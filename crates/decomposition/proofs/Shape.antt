@@ -2,7 +2,6 @@
 -- nothing.
 use Rattle.std.specs.Prelude.{Err, None, Ok}
 use Rattle.refusal.specs.Refusal.{Checked, passed}
-use Rattle.decomposition.specs.Decomposition.{Decomposed}
 use Rattle.schur.specs.Run.{Ran}
 use Prim.Native.Nat.{ℕ, ◌*◌, ◌≤◌}
 use mathlib.Core.Bool.{true}
@@ -19,7 +18,7 @@ use Rattle.pass.specs.declared.setting.Setting.{Setting}
 use Rattle.pass.specs.Pair.{Pair}
 use Rattle.schur.specs.declared.run.Stopped.TheVariants.{BudgetReached, Unfit}
 use Rattle.decomposition.specs.Checks.{result_checks}
-use Rattle.decomposition.specs.Decomposition.{verdict, entry_of, Shaped}
+use Rattle.decomposition.specs.Decomposition.{Decomposed, verdict, entry_of, Shaped}
 use Rattle.decomposition.proofs.CheckedArguments.{Sizes, all_right}
 use Rattle.decomposition.proofs.Touched.{accepted_passed, as_run, lent_long, t_square}
 

@@ -1,11 +1,10 @@
 -- What the decomposition looks at, in the order of document 01's table: the arguments before the run, T and Q after it.
-use Rattle.refusal.specs.Refusal.{Checked}
 use Rattle.std.specs.Prelude.{ℕ, ◌*◌, Bool, not, ◌&&◌, List, leb, Float}
 use Rattle.std.specs.Float.Ieee.{le, lt}
 use Rattle.loops.specs.Constants.{zero, one}
 use Rattle.refusal.specs.declared.refusal.Refusal.TheVariants.{WrongLength, ToleranceOutside, BudgetOutside}
 use Rattle.refusal.specs.declared.refusal.Refusal.TheVariants.{ResultNotFinite, ShapeSpoiled}
-use Rattle.refusal.specs.Refusal.{refuse, refuse_at, ◌next◌}
+use Rattle.refusal.specs.Refusal.{Checked, refuse, refuse_at, ◌next◌}
 use Rattle.refusal.specs.Search.{first_not_finite, first_spoiling}
 use Rattle.refusal.specs.Checks.{order_checks, length_check, only_if, matrix_lengths, entry_checks}
 use Rattle.pass.specs.declared.setting.Setting.{Setting}

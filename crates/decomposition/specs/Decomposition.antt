@@ -1,6 +1,4 @@
 -- The decomposition on all inputs: what is answered, and what T, Q and the workspace hold afterwards.
-use Rattle.refusal.specs.Refusal.{Checked}
-use Rattle.schur.specs.Run.{Ran}
 use Rattle.std.specs.Prelude.{ℕ, ◌<◌, List, length, Result, Ok, Err, Float}
 use Rattle.std.specs.Float.{nan}
 use Rattle.loops.specs.Constants.{zero}
@@ -8,11 +6,11 @@ use Rattle.matrix.specs.Vectors.{filled}
 use Rattle.pass.specs.declared.setting.Setting.{Setting}
 use Rattle.pass.specs.Pair.{Pair, pair, on_q}
 use Rattle.schur.specs.declared.run.Stopped.TheVariants.{BudgetReached, Unfit}
-use Rattle.schur.specs.Run.{Left, ran_of}
+use Rattle.schur.specs.Run.{Ran, Left, ran_of}
 use Rattle.refusal.specs.declared.refusal.Refusal.{Refusal}
 use Rattle.refusal.specs.declared.refusal.Refusal.TheVariants as refusal
 use Rattle.refusal.specs.declared.refusal.Told.{Told}
-use Rattle.refusal.specs.Refusal.{told_of, without_place}
+use Rattle.refusal.specs.Refusal.{Checked, told_of, without_place}
 use Rattle.refusal.specs.Shape.{QuasiTriangular}
 use Rattle.decomposition.specs.Checks.{all_lengths, argument_checks, result_checks}
 

@@ -1,7 +1,6 @@
 -- Worked cases, by evaluation: patterns in, patterns out. The refusals, the places that they tell and what is left
 -- behind are document 01's; T, Q and the count of what is accepted were computed by the plain model of the Rust,
 -- oracle/src/model.rs. The letters are those of document 01's matrices.
-use Rattle.decomposition.specs.Decomposition.{Decomposed}
 use Rattle.std.specs.Prelude.{◌≡◌, refl, ℕ, ◌*◌, Bool, true, false, List, [], ◌∷◌, map, Float, Err, Ok}
 use Rattle.std.specs.Float.Ieee.{of_bits}
 use Rattle.std.specs.Float.{binary64}
@@ -9,8 +8,7 @@ use Rattle.loops.specs.Constants.{one}
 use Rattle.loops.specs.Times.{times}
 use Rattle.loops.specs.First.{first_from}
 use Rattle.scalar.specs.Class.{is_finite}
-use Rattle.matrix.specs.Known.{shown}
-use Rattle.matrix.specs.Known.{numbers}
+use Rattle.matrix.specs.Known.{shown, numbers}
 use Rattle.schur.specs.Opened.{opened_schur}
 use Rattle.pass.specs.Setting.{setting}
 use Rattle.pass.specs.Pair.{pair}
@@ -20,7 +18,7 @@ use Rattle.refusal.specs.Search.{first_row, first_col, first_place}
 use Rattle.refusal.specs.Search.{not_finite, spoils, first_not_finite, first_spoiling}
 use Rattle.decomposition.specs.Checks.{tolerance_fits, budget_fits, all_lengths, argument_checks, result_checks}
 use Rattle.decomposition.specs.Decomposition.{Outcome, verdict, passes_of, nan_filled, settled, decided, judged}
-use Rattle.decomposition.specs.Decomposition.{begun, entry_of, decomposition_of, placed_of}
+use Rattle.decomposition.specs.Decomposition.{Decomposed, begun, entry_of, decomposition_of, placed_of}
 
 -- every definition that a case computes with
 unfoldable pub opened_decomposition : Unit {0}

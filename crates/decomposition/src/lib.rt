@@ -1,6 +1,6 @@
 // The real Schur decomposition as a caller gets it: the arguments are checked, the run is made, its result is
 // looked at. A matrix of order n lies column by column in one slice.
-#![tactic(auto, using(refusal::proofs::ChecksInTurn::in_turn, refusal::proofs::ChecksInTurn::next_assoc), unfolding(crate::specs::Checks::tolerance_fits, crate::specs::Checks::budget_fits, crate::specs::Checks::argument_checks, crate::specs::Checks::all_lengths, crate::specs::Checks::result_checks, crate::specs::Inner::refusal_of, crate::specs::Decomposition::verdict, crate::specs::Decomposition::passes_of, crate::specs::Decomposition::settled, crate::specs::Decomposition::decided, crate::specs::Decomposition::nan_filled, refusal::specs::Refusal::refuse, refusal::specs::Checks::only_if))]
+#![tactic(auto)]
 
 ghost use Rattle.std.specs.Prelude.{◌≡◌, true, length};
 ghost use Rattle.pass.specs.Pair.{pair};
@@ -15,19 +15,22 @@ use refusal::Refusal;
 use schur::Stopped;
 
 // From 0 to below 1: also -0, and not NaN.
+#[tactic(auto, unfolding(crate::specs::Checks::tolerance_fits))]
 pub fn tolerance_fits(x: f64) -> bool
     ensures { result ≡ tolerance_fits x }
 {
     x >= 0.0 && x < 1.0
 }
 
+#[tactic(auto, unfolding(crate::specs::Checks::budget_fits))]
 pub fn budget_fits(b: u64) -> bool
     ensures { result ≡ budget_fits b }
 {
-    b >= 1 && b <= 1000000
+    (1..=1_000_000).contains(&b)
 }
 
 // The arguments, in the order of document 01's table; tn, qn and wn are the lengths of what is lent.
+#[tactic(auto, using(crate::proofs::Judging::checked))]
 fn check_arguments(
     m: &[f64],
     asked: Setting,
@@ -53,6 +56,7 @@ fn check_arguments(
 }
 
 // T first, or else Q if it is wanted.
+#[tactic(auto, using(crate::proofs::Judging::checked))]
 fn check_result(t: &[f64], q: &[f64], asked: Setting) -> Result<(), Refusal>
     ensures { result ≡ result_checks asked (pair t.now q.now) }
 {
@@ -64,6 +68,7 @@ fn check_result(t: &[f64], q: &[f64], asked: Setting) -> Result<(), Refusal>
 }
 
 // The budget was reached: 7. That an argument does not fit is never met here, since the lengths were checked before.
+#[tactic(auto, unfolding(crate::specs::Inner::refusal_of))]
 fn refusal_of(stopped: Stopped) -> Refusal
     ensures { result ≡ refusal_of stopped }
 {
@@ -74,6 +79,7 @@ fn refusal_of(stopped: Stopped) -> Refusal
 }
 
 // What is to be said of a run that left this T and Q.
+#[tactic(auto, using(crate::proofs::Judging::judging))]
 fn judge(ran: Result<u64, Stopped>, t: &[f64], q: &[f64], asked: Setting) -> Result<u64, Refusal>
     ensures { result ≡ (decided asked ran (pair t.now q.now)).answer }
 {
@@ -83,6 +89,7 @@ fn judge(ran: Result<u64, Stopped>, t: &[f64], q: &[f64], asked: Setting) -> Res
 }
 
 // NaN in every entry of T, and of Q if it is wanted.
+#[tactic(auto, unfolding(crate::specs::Decomposition::nan_filled))]
 fn fill_with_nan(t: &mut [f64], q: &mut [f64], asked: Setting)
     ensures { pair t.new q.new ≡ nan_filled asked (pair t.old q.old) }
 {

@@ -38,6 +38,9 @@ pub paired_inside : (n : ℕ) (t : List Float) (k : ℕ) → paired n t k ≡ tr
 unfolding paired
 paired_inside n t k h = ltb-true (k + 1) n (both _ _ h).0
 
+-- what is known of an entry that is read
+pub ruleset blocks = (entry_of_there, paired_inside)
+
 -- ---- its entries, by the total read
 
 pub block_read : (n k : ℕ) (t : List Float) → n ≤ 64 → length t ≡ n * n → k + 1 < n

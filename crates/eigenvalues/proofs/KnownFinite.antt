@@ -1,11 +1,10 @@
 -- The readers of entries that are known to be finite: where the entries pass, it makes no difference that they are not looked at. Assumes nothing.
 use Rattle.std.specs.Prelude.{Err, Ok}
-use Rattle.refusal.specs.Refusal.{Checked, passed}
 use Prim.Native.Nat.{ℕ}
 use mathlib.Core.Path.{◌≡◌, refl, ap}
 use mathlib.Core.List.{List}
 use lib.Ieee.{Float}
-use Rattle.refusal.specs.Refusal.{◌next◌}
+use Rattle.refusal.specs.Refusal.{Checked, passed, ◌next◌}
 use Rattle.refusal.specs.Checks.{entry_checks, given_checks}
 use Rattle.eigenvalues.specs.Readers.{readable, finite_readable, pair_check, diagonal_by, real_checks, real_read, real_finite_of, block_checks, eigenvalues_by}
 use Rattle.eigenvalues.specs.Readers.{complex_checks, complex_read, complex_finite_of}

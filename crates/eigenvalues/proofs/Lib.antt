@@ -5,5 +5,6 @@ pub mod KnownFinite
 pub mod BlockAnswers
 pub mod DiagonalSearch
 pub mod One
+mod Making
 mod ReaderChecks
 mod Filling

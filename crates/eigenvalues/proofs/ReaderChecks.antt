@@ -1,12 +1,11 @@
 -- The checks of both readers: what is known where all have passed. Assumes nothing.
-use Rattle.refusal.specs.Refusal.{Checked, passed}
 use Prim.Native.Nat.{ℕ, ◌*◌}
 use mathlib.Core.Path.{◌≡◌}
 use mathlib.Core.List.{List}
 use lib.ListN.{length}
 use lib.Ieee.{Float}
 use Rattle.refusal.specs.declared.refusal.Refusal.TheVariants.{WrongLength}
-use Rattle.refusal.specs.Refusal.{◌next◌}
+use Rattle.refusal.specs.Refusal.{Checked, passed, ◌next◌}
 use Rattle.refusal.specs.Checks.{order_checks, length_check, given_checks}
 use Rattle.refusal.proofs.ChecksInTurn.{next_passed, next_before}
 use Rattle.refusal.proofs.PassedChecks.{order_then, length_passed, length_then}

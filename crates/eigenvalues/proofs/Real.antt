@@ -1,7 +1,6 @@
 -- The real reader (document 00, demand 3): given a T that may be read, it answers the diagonal if every entry just below the diagonal is zero, and else
 -- 'complex'; and each of the two then only. Assumes nothing.
 use Rattle.std.specs.Prelude.{Err}
-use Rattle.refusal.specs.Refusal.{Checked, passed}
 use Prim.Native.Nat.{ℕ, ◌+◌, ◌*◌, ◌<◌, ◌≤◌}
 use mathlib.Core.Bool.{true, false, not}
 use mathlib.Core.Path.{◌≡◌, sym, ap, subst, ◌∙◌}
@@ -15,7 +14,7 @@ use Rattle.loops.specs.First.{first}
 use Rattle.loops.proofs.First.{first_named, some_none, some_named, none_some}
 use Rattle.refusal.specs.declared.refusal.Refusal.{Refusal}
 use Rattle.refusal.specs.declared.refusal.Refusal.TheVariants.{WrongLength, ComplexEigenvalues}
-use Rattle.refusal.specs.Refusal.{told_of, checked_told, refuse, refuse_at, if_passed}
+use Rattle.refusal.specs.Refusal.{Checked, passed, told_of, checked_told, refuse, refuse_at, if_passed}
 use Rattle.refusal.specs.Checks.{length_check}
 use Rattle.refusal.proofs.ChecksInTurn.{next_passed, next_passes, next_on, next_second, refuse_passed, refuse_refused, refuse_at_passed, Only, only_next}
 use Rattle.refusal.proofs.ChecksInTurn.{only_at}

@@ -1,7 +1,6 @@
 -- Worked cases, by evaluation: patterns in, patterns out. The eigenvalues were computed by the plain model of the Rust,
 -- oracle/src/model.rs; the refusals and the places that they tell are document 01's, which the Rust does not have. b,
 -- d, h, i and n are matrices with known outcomes of document 01.
-use Rattle.refusal.specs.Refusal.{Checked}
 use Rattle.std.specs.Prelude.{◌≡◌, refl, ℕ, List, [], ◌∷◌, map, Float, Err, Ok}
 use Rattle.std.specs.Float.Ieee.{sub, neg, eq}
 use Rattle.loops.specs.Constants.{one}
@@ -10,13 +9,11 @@ use Rattle.loops.specs.Until.{until}
 use Rattle.loops.specs.First.{first_from}
 use Rattle.loops.specs.Table.{table}
 use Rattle.scalar.specs.Class.{is_finite}
-use Rattle.matrix.specs.Known.{opened, shown}
-use Rattle.matrix.specs.Known.{numbers}
+use Rattle.matrix.specs.Known.{opened, shown, numbers}
 use Rattle.pass.specs.Block.{block_at, discriminant}
-use Rattle.refusal.specs.Refusal.{told_of, refuse, refuse_at, ◌next◌, if_passed}
-use Rattle.refusal.specs.Search.{first_row, first_col, first_place}
+use Rattle.refusal.specs.Refusal.{Checked, told_of, refuse, refuse_at, ◌next◌, if_passed}
 use Rattle.refusal.specs.Search.{first_on_diagonal, not_finite, spoils, first_not_finite}
-use Rattle.refusal.specs.Search.{first_spoiling}
+use Rattle.refusal.specs.Search.{first_row, first_col, first_place, first_spoiling}
 use Rattle.refusal.specs.Checks.{order_checks, length_check, entry_checks, given_checks}
 use Rattle.eigenvalues.specs.Blocks.{paired, pair_of, answer_at, not_complex, upper, lower, follows, answer_before}
 use Rattle.eigenvalues.specs.Blocks.{eigenvalue_at}

@@ -1,5 +1,4 @@
 -- The real and the complex reader of a given T: what each answers, and what the lent lists hold afterwards.
-use Rattle.refusal.specs.Refusal.{Checked}
 use Rattle.std.specs.Prelude.{ℕ, ◌*◌, Bool, not, ◌&&◌, List, length, Float}
 use Rattle.loops.specs.First.{some}
 use Rattle.loops.specs.Place.{place}
@@ -8,7 +7,7 @@ use Rattle.loops.specs.Table.{table}
 use Rattle.scalar.specs.Class.{is_finite}
 use Rattle.refusal.specs.declared.refusal.Refusal.TheVariants.{WrongLength, ResultNotFinite, ShapeSpoiled}
 use Rattle.refusal.specs.declared.refusal.Refusal.TheVariants.{ComplexEigenvalues, BlockNotComplex}
-use Rattle.refusal.specs.Refusal.{refuse, refuse_at, ◌next◌, if_passed}
+use Rattle.refusal.specs.Refusal.{Checked, refuse, refuse_at, ◌next◌, if_passed}
 use Rattle.refusal.specs.Search.{first_on_diagonal, first_spoiling}
 use Rattle.refusal.specs.Checks.{order_checks, length_check, given_checks}
 use Rattle.eigenvalues.specs.Blocks.{paired, not_complex, eigenvalue_at}

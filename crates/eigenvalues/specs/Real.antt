@@ -1,11 +1,10 @@
 -- What the real reader promises (document 00, demand 3): given a T that may be read, its diagonal if every entry just
 -- below the diagonal is zero, and else 'complex', 10. -0 counts as zero.
-use Rattle.refusal.specs.Refusal.{Checked}
 use Rattle.std.specs.Prelude.{ℕ, ◌+◌, ◌*◌, ◌<◌, ◌≤◌, true, false, ◌≡◌, List, length, Float}
 use Rattle.loops.specs.Place.{place}
 use Rattle.loops.specs.Rounded.{◌!◌}
 use Rattle.scalar.specs.Class.{is_zero}
-use Rattle.refusal.specs.Refusal.{without_place, checked_told}
+use Rattle.refusal.specs.Refusal.{Checked, without_place, checked_told}
 use Rattle.refusal.specs.Shape.{AllFinite, QuasiTriangular}
 use Rattle.eigenvalues.specs.Readers.{diagonal}
 

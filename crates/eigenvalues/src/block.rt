@@ -1,6 +1,4 @@
 // A block on T's diagonal, and what it answers. A matrix of order n lies column by column in one slice.
-#![tactic(auto, using(matrix::proofs::Kernels::entry_of_there, crate::proofs::BlockAnswers::paired_inside), unfolding(crate::specs::Blocks::paired, crate::specs::Blocks::pair_of, crate::specs::Blocks::answer_at, crate::specs::Blocks::not_complex, crate::specs::Blocks::upper, crate::specs::Blocks::lower, crate::specs::Blocks::follows,),)]
-
 ghost use Rattle.std.specs.Prelude.{◌≡◌, ◌&&◌, length, ◌+◌, ◌<◌};
 ghost use Rattle.scalar.specs.Class.{is_finite};
 ghost use Rattle.pass.specs.Block.{block_at};
@@ -23,6 +21,7 @@ pub enum BlockAnswer {
 }
 
 // Whether a block of two stands at k: the entry just below the diagonal is there and is not 0.
+#[tactic(auto, using(crate::proofs::BlockAnswers::blocks), unfolding(crate::specs::Blocks::paired))]
 pub(crate) fn is_paired(t: &[f64], n: usize, k: usize) -> bool
     requires { Square n (length t.now) × (k < n) }
     ensures { result ≡ paired n t.now k }
@@ -44,6 +43,7 @@ pub(crate) fn block_at(t: &[f64], n: usize, k: usize) -> Block
 }
 
 // Half the trace, and the root of the discriminant without its sign: where it is above 0 or NaN, a NaN.
+#[tactic(auto, unfolding(crate::specs::Blocks::pair_of))]
 fn pair_of(m: Block) -> Parts
     ensures { result ≡ pair_of m }
 {
@@ -56,6 +56,7 @@ fn pair_of(m: Block) -> Parts
 }
 
 // What the block with its upper left entry at k answers.
+#[tactic(auto, using(crate::proofs::BlockAnswers::blocks), unfolding(crate::specs::Blocks::answer_at))]
 pub(crate) fn answer_at(t: &[f64], n: usize, k: usize) -> BlockAnswer
     requires { Square n (length t.now) × (k < n) }
     ensures { result ≡ answer_at n t.now k }
@@ -68,6 +69,7 @@ pub(crate) fn answer_at(t: &[f64], n: usize, k: usize) -> BlockAnswer
 }
 
 // Whether a block of two stands at k whose discriminant is above 0 or NaN.
+#[tactic(auto, using(crate::proofs::BlockAnswers::blocks), unfolding(crate::specs::Blocks::not_complex))]
 pub(crate) fn is_not_complex(t: &[f64], n: usize, k: usize) -> bool
     requires { Square n (length t.now) × (k < n) }
     ensures { result ≡ not_complex n t.now k }
@@ -75,43 +77,49 @@ pub(crate) fn is_not_complex(t: &[f64], n: usize, k: usize) -> bool
     is_paired(t, n, k) && !(pass::discriminant(block_at(t, n, k)) <= 0.0)
 }
 
-// The eigenvalue of a block's first row: (half, 0) + (0, root).
-fn upper_of(here: BlockAnswer) -> Parts
-    ensures { result ≡ upper here }
-{
-    match here {
-        BlockAnswer::One(x) => Parts { re: x, im: 0.0 },
-        BlockAnswer::Pair(p) => Parts {
-            re: p.re + 0.0,
-            im: 0.0 + p.im,
-        },
+impl BlockAnswer {
+    // The eigenvalue of a block's first row: (half, 0) + (0, root).
+    #[tactic(auto, unfolding(crate::specs::Blocks::upper))]
+    fn first_row(self) -> Parts
+        ensures { result ≡ upper self }
+    {
+        match self {
+            BlockAnswer::One(x) => Parts { re: x, im: 0.0 },
+            BlockAnswer::Pair(p) => Parts {
+                re: p.re + 0.0,
+                im: 0.0 + p.im,
+            },
+        }
+    }
+
+    // The eigenvalue of a row that answers so, by what the row before has answered: that one may begin a pair.
+    #[tactic(auto, unfolding(crate::specs::Blocks::follows))]
+    pub(crate) fn eigenvalue(self, before: BlockAnswer) -> Parts
+        ensures { result ≡ follows before self }
+    {
+        match before {
+            BlockAnswer::One(_) => self.first_row(),
+            BlockAnswer::Pair(p) => p.second_row(),
+        }
     }
 }
 
-// And of its second: (half, 0) - (0, root).
-fn lower_of(p: Parts) -> Parts
-    ensures { result ≡ lower p }
-{
-    Parts {
-        re: p.re - 0.0,
-        im: 0.0 - p.im,
+impl Parts {
+    // The eigenvalue of a pair's second row: (half, 0) - (0, root).
+    #[tactic(auto, unfolding(crate::specs::Blocks::lower))]
+    fn second_row(self) -> Parts
+        ensures { result ≡ lower self }
+    {
+        Parts {
+            re: self.re - 0.0,
+            im: 0.0 - self.im,
+        }
     }
-}
 
-// The eigenvalue of a row, by what the row before has answered and what its own does: the row before may
-// begin a pair.
-pub(crate) fn eigenvalue_of(before: BlockAnswer, here: BlockAnswer) -> Parts
-    ensures { result ≡ follows before here }
-{
-    match before {
-        BlockAnswer::One(_) => upper_of(here),
-        BlockAnswer::Pair(p) => lower_of(p),
+    // Whether both are finite.
+    pub(crate) fn is_finite(self) -> bool
+        ensures { result ≡ (is_finite self.re && is_finite self.im) }
+    {
+        scalar::is_finite(self.re) && scalar::is_finite(self.im)
     }
-}
-
-// Whether both parts are finite.
-pub(crate) fn is_finite(e: Parts) -> bool
-    ensures { result ≡ (is_finite e.re && is_finite e.im) }
-{
-    scalar::is_finite(e.re) && scalar::is_finite(e.im)
 }

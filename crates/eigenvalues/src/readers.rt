@@ -1,6 +1,4 @@
 // The readers of a given T, a matrix of order n that lies column by column in one slice.
-#![tactic(auto, using(refusal::proofs::ChecksInTurn::in_turn, refusal::proofs::ChecksInTurn::next_back, crate::proofs::Real::real_held), unfolding(crate::specs::Readers::readable, crate::specs::Readers::finite_readable, crate::specs::Readers::shape_check, crate::specs::Readers::real_checks, crate::specs::Readers::real_lengths, crate::specs::Readers::real_read, crate::specs::Readers::real_finite_of, crate::specs::Readers::diagonal_if_real, crate::specs::Readers::complex_checks, crate::specs::Readers::complex_lengths, crate::specs::Readers::complex_read, crate::specs::Readers::complex_finite_of, refusal::specs::Checks::given_checks, crate::specs::Readers::pair_check, crate::specs::Readers::left_by, crate::specs::Readers::block_checks, refusal::specs::Refusal::refuse, refusal::specs::Refusal::refuse_at, refusal::specs::Refusal::if_passed))]
-
 ghost use Rattle.std.specs.Prelude.{◌≡◌, length};
 ghost use Rattle.loops.specs.Table.{table};
 ghost use Rattle.refusal.specs.declared.refusal.Refusal.TheVariants.{WrongLength};
@@ -15,7 +13,7 @@ ghost use Rattle.eigenvalues.specs.Readers.{not_finite_at, block_checks, complex
 ghost use Rattle.eigenvalues.specs.Readers.{complex_finite_of};
 ghost use Rattle.eigenvalues.specs.Real.{RealAnswer};
 
-use crate::block::{BlockAnswer, answer_at, eigenvalue_of, is_finite, is_not_complex, is_paired};
+use crate::block::{BlockAnswer, answer_at, is_not_complex, is_paired};
 use refusal::{Place, Refusal};
 
 // Whether some block of two stands.
@@ -31,12 +29,14 @@ fn do_eigenvalues(t: &[f64], n: usize, values: &mut [f64])
     requires { Square n (length t.now) × (length values.old ≡ n) }
     ensures { values.new ≡ diagonal n t.now }
 {
+    // By index: of what an adapter of `iter_mut` writes a proof is told nothing.
     for k in 0..n {
         values[k] = matrix::entry(t, n, k, k);
     }
 }
 
 // The diagonal, if no block of two stands: else 10, and `values` is left as it was.
+#[tactic(auto, using(crate::proofs::Making::made))]
 fn diagonal_of(t: &[f64], n: usize, values: &mut [f64]) -> Result<(), Refusal>
     requires { Square n (length t.now) × (length values.old ≡ n) }
     ensures { read result values.new
@@ -50,6 +50,7 @@ fn diagonal_of(t: &[f64], n: usize, values: &mut [f64]) -> Result<(), Refusal>
 }
 
 // The eigenvalues of T, if all are real. A refusal leaves `values` as it was.
+#[tactic(auto, using(crate::proofs::Making::made))]
 pub fn eigenvalues(t: &[f64], n: usize, values: &mut [f64]) -> Result<(), Refusal>
     ensures values_after { read result values.new ≡ real_read n t.now values.old }
     ensures real_answer { RealAnswer n t.now values.old result values.new }
@@ -61,6 +62,7 @@ pub fn eigenvalues(t: &[f64], n: usize, values: &mut [f64]) -> Result<(), Refusa
 }
 
 // The same for entries that are known to be finite: they are not looked at again.
+#[tactic(auto, using(crate::proofs::Making::made))]
 pub fn eigenvalues_of_finite(t: &[f64], n: usize, values: &mut [f64]) -> Result<(), Refusal>
     ensures { read result values.new ≡ real_finite_of n t.now values.old }
 {
@@ -72,6 +74,7 @@ pub fn eigenvalues_of_finite(t: &[f64], n: usize, values: &mut [f64]) -> Result<
 
 // The same for a T whose entries and shape are known to be right, as an accepted T's are: they are not looked at
 // again.
+#[tactic(auto, using(crate::proofs::Making::made))]
 pub fn diagonal_if_real(t: &[f64], n: usize, values: &mut [f64]) -> Result<(), Refusal>
     ensures { read result values.new ≡ diagonal_if_real n t.now values.old }
 {
@@ -99,7 +102,7 @@ fn first_value_not_finite(t: &[f64], n: usize) -> Option<Place>
     let mut before = BlockAnswer::One(0.0);
     for k in 0..n {
         let here = answer_at(t, n, k);
-        if !is_finite(eigenvalue_of(before, here)) {
+        if !here.eigenvalue(before).is_finite() {
             return Some(Place { row: k, col: k });
         }
         before = here;
@@ -108,6 +111,7 @@ fn first_value_not_finite(t: &[f64], n: usize) -> Option<Place>
 }
 
 // The complex reader's own checks: 11, and 8 last.
+#[tactic(auto, using(crate::proofs::Making::made))]
 fn check_blocks(t: &[f64], n: usize) -> Result<(), Refusal>
     requires { Square n (length t.now) }
     ensures { result ≡ block_checks n t.now }
@@ -115,7 +119,9 @@ fn check_blocks(t: &[f64], n: usize) -> Result<(), Refusal>
     if let Some(p) = first_not_complex(t, n) {
         return Err(Refusal::BlockNotComplex(p));
     }
-    first_value_not_finite(t, n).map_or(Ok(()), |p| Err(Refusal::ResultNotFinite(p)))
+    first_value_not_finite(t, n)
+        .map(Refusal::ResultNotFinite)
+        .map_or(Ok(()), Err)
 }
 
 // One for each row.
@@ -125,9 +131,10 @@ fn do_complex_eigenvalues(t: &[f64], n: usize, re: &mut [f64], im: &mut [f64])
     ensures im_after { im.new ≡ table n (λ k. (eigenvalue_at n t.now k).im) }
 {
     let mut before = BlockAnswer::One(0.0);
+    // By index: of what an adapter of `iter_mut` writes a proof is told nothing.
     for k in 0..n {
         let here = answer_at(t, n, k);
-        let e = eigenvalue_of(before, here);
+        let e = here.eigenvalue(before);
         re[k] = e.re;
         im[k] = e.im;
         before = here;
@@ -135,6 +142,7 @@ fn do_complex_eigenvalues(t: &[f64], n: usize, re: &mut [f64], im: &mut [f64])
 }
 
 // Each list has one number for each row.
+#[tactic(auto, using(refusal::proofs::ChecksInTurn::in_turn))]
 fn check_lists(n: usize, re: usize, im: usize) -> Result<(), Refusal>
     ensures { result ≡ (length_check WrongLength re n next length_check WrongLength im n) }
 {
@@ -143,6 +151,7 @@ fn check_lists(n: usize, re: usize, im: usize) -> Result<(), Refusal>
 }
 
 // They are written if those checks pass; else both lists are left as they were.
+#[tactic(auto, using(crate::proofs::Making::made))]
 fn pairs_of(t: &[f64], n: usize, re: &mut [f64], im: &mut [f64]) -> Result<(), Refusal>
     requires { Square n (length t.now) × (length re.old ≡ n) × (length im.old ≡ n) }
     ensures { complexly result re.new im.new
@@ -154,6 +163,7 @@ fn pairs_of(t: &[f64], n: usize, re: &mut [f64], im: &mut [f64]) -> Result<(), R
 }
 
 // The eigenvalues of T, by their real and imaginary parts. A refusal leaves both lists as they were.
+#[tactic(auto, using(crate::proofs::Making::made))]
 pub fn complex_eigenvalues(
     t: &[f64],
     n: usize,
@@ -169,6 +179,7 @@ pub fn complex_eigenvalues(
 }
 
 // The same for entries that are known to be finite: they are not looked at again.
+#[tactic(auto, using(crate::proofs::Making::made))]
 pub fn complex_eigenvalues_of_finite(
     t: &[f64],
     n: usize,

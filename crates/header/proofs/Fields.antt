@@ -1,19 +1,16 @@
 -- The fields of a header. Assumes nothing.
-use Prim.Native.Nat.{ℕ, ◌+◌, ◌*◌, ◌<◌}
-use mathlib.Core.Path.{◌≡◌, ◌∙◌}
+use Prim.Native.Nat.{ℕ, ◌+◌, ◌-◌, ◌≤◌}
+use mathlib.Core.Path.{◌≡◌, ap, ◌∙◌}
 use mathlib.Core.List.{List}
 use native.Mathlib.Omega.{arith}
 use native.Mathlib.Nat.{add-zero}
-use lib.ListN.{get_or, take, drop}
-use lib.Seq.{get_or-take, get_or-drop}
-use Rattle.std.specs.Int.{w16, w32, w64, from_le_bytes}
-use Rattle.words.specs.Words.{le64}
+use lib.ListN.{take, drop}
+use Rattle.std.specs.Int.{w16, w32, from_le_bytes}
+use Rattle.std.proofs.lemmas.List.{drop-take, take-take}
+use Rattle.words.proofs.Chunks.{piece}
 use Rattle.header.specs.Record.{le16, le32}
 
 -- a number out of its bytes, as std makes it
-piece : (s : List ℕ) (at n i : ℕ) → i < n → get_or (take n (drop at s)) i 0 ≡ get_or s (at + i) 0
-piece s at n i l = get_or-take n (drop at s) i 0 l ∙ get_or-drop at s i 0
-
 pub le16_bytes : (s : List ℕ) (at : ℕ) → from_le_bytes w16 (take 2 (drop at s)) ≡ le16 s at
 unfolding le16
 le16_bytes s at = rw (piece s at 2 0 (omega arith), piece s at 2 1 (omega arith), add-zero)
@@ -24,26 +21,8 @@ le32_bytes s at =
     let a : at + 2 + 1 ≡ at + 3 = omega arith in
     rw (piece s at 4 0 (omega arith), piece s at 4 1 (omega arith), piece s at 4 2 (omega arith), piece s at 4 3 (omega arith), add-zero, a) (omega arith)
 
-pub le64_bytes : (s : List ℕ) (at : ℕ) → from_le_bytes w64 (take 8 (drop at s)) ≡ le64 s at
-unfolding le64
-le64_bytes s at = rw (
-  piece s at 8 0 (omega arith),
-  piece s at 8 1 (omega arith),
-  piece s at 8 2 (omega arith),
-  piece s at 8 3 (omega arith),
-  piece s at 8 4 (omega arith),
-  piece s at 8 5 (omega arith),
-  piece s at 8 6 (omega arith),
-  piece s at 8 7 (omega arith),
-  add-zero,
-)
-
--- eight bytes as twice four
-pub le64_halves : (s : List ℕ) (at : ℕ) → le64 s at ≡ le32 s at + le32 s (at + 4) * 4294967296
-unfolding le64 le32 le16
-le64_halves s at =
-    let a : at + 2 + 1 ≡ at + 3 = omega arith in
-    let b : at + 4 + 1 ≡ at + 5 = omega arith in
-    let c : at + 4 + 2 + 1 ≡ at + 7 = omega arith in
-    let d : at + 4 + 2 ≡ at + 6 = omega arith in
-    rw (a, b, c, d) (omega arith)
+-- n bytes lie within the first m
+pub front : (m : ℕ) (s : List ℕ) (at n : ℕ) → at + n ≤ m → take n (drop at (take m s)) ≡ take n (drop at s)
+front m s at n h =
+    let e : m ≡ at + (m - at) = omega arith in
+    ap (λ k. take n (drop at (take k s))) e ∙ ap (take n) (drop-take at (m - at) s) ∙ take-take n (m - at) (drop at s) (omega arith)

@@ -2,19 +2,21 @@
 -- nothing.
 use Rattle.std.specs.Prelude.{Ok}
 use Prim.Native.Nat.{ℕ, ◌+◌, ◌*◌, ◌<◌, ◌≤◌}
-use mathlib.Core.Path.{◌≡◌, refl, sym, ◌∙◌}
+use mathlib.Core.Path.{◌≡◌, refl, sym, ap, ◌∙◌}
 use mathlib.Core.Bool.{Bool, true, false}
 use mathlib.Core.List.{List}
 use native.Mathlib.Omega.{arith}
 use borrow.Author.Tests.{eqb-true, ltb-false, lt-ltb, le-ltb}
 use lib.Dec.{eqb, ltb}
 use lib.ListN.{length, take}
-use lib.Seq.{length-take-le, get_or-take}
+use lib.Seq.{length-take-le}
+use Rattle.std.specs.Int.{w16, w32, w64, from_le_bytes}
 use Rattle.refusal.specs.Refusal.{refuse, ◌next◌}
 use Rattle.words.specs.Words.{le64}
+use Rattle.words.proofs.Chunks.{le64_bytes}
 use Rattle.header.specs.declared.Header.{Header}
 use Rattle.header.specs.Record.{le16, le32, header_of, header_checks, record_checks, examined}
-use Rattle.header.proofs.Fields.{le64_halves}
+use Rattle.header.proofs.Fields.{le16_bytes, le32_bytes, front}
 use Rattle.header.proofs.Rooms.{square_32}
 use Rattle.header.proofs.FitHeader.{fit_header}
 
@@ -22,15 +24,13 @@ use Rattle.header.proofs.FitHeader.{fit_header}
 
 module _ (n : ℕ) (s : List ℕ) where
   le16-take : (at : ℕ) → at + 2 ≤ n → le16 (take n s) at ≡ le16 s at
-  unfolding le16
-  le16-take at h = rw (get_or-take n s at 0 (omega arith), get_or-take n s (at + 1) 0 (omega arith))
+  le16-take at h = sym (le16_bytes (take n s) at) ∙ ap (from_le_bytes w16) (front n s at 2 h) ∙ le16_bytes s at
 
   le32-take : (at : ℕ) → at + 4 ≤ n → le32 (take n s) at ≡ le32 s at
-  unfolding le32
-  le32-take at h = rw (le16-take at (omega arith), le16-take (at + 2) (omega arith))
+  le32-take at h = sym (le32_bytes (take n s) at) ∙ ap (from_le_bytes w32) (front n s at 4 h) ∙ le32_bytes s at
 
   le64-take : (at : ℕ) → at + 8 ≤ n → le64 (take n s) at ≡ le64 s at
-  le64-take at h = le64_halves (take n s) at ∙ rw (le32-take at (omega arith), le32-take (at + 4) (omega arith)) (sym (le64_halves s at))
+  le64-take at h = sym (le64_bytes (take n s) at) ∙ ap (from_le_bytes w64) (front n s at 8 h) ∙ le64_bytes s at
 
   header_take : 20 ≤ n → header_of (take n s) ≡ header_of s
   unfolding header_of

@@ -1,14 +1,13 @@
 -- The three entries, one by another. A matrix that is kept is a copy worked on in place; where the entries are finite it makes no difference that they are
 -- not looked at; and what a refusal before the run leaves. Assumes nothing.
 use Rattle.std.specs.Prelude.{Err, Ok}
-use Rattle.refusal.specs.Refusal.{Checked, passed}
 use Prim.Native.Nat.{ℕ}
 use mathlib.Core.Path.{◌≡◌, refl, sym, ap, ◌∙◌}
 use mathlib.Core.List.{List}
 use lib.ListN.{length}
 use lib.Ieee.{Float}
 use Rattle.refusal.specs.declared.refusal.Refusal.{Refusal}
-use Rattle.refusal.specs.Refusal.{◌next◌}
+use Rattle.refusal.specs.Refusal.{Checked, passed, ◌next◌}
 use Rattle.refusal.specs.Checks.{order_checks, entry_checks, given_checks}
 use Rattle.refusal.proofs.ChecksInTurn.{next_assoc}
 use Rattle.plain.specs.Plain.{plain_lengths, in_place, plain_begun, plain_placed_of, plain_finite_of, kept, plain_of}

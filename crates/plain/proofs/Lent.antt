@@ -1,7 +1,6 @@
 -- What lent memory held is not felt: two calls of the plain entry on one matrix, with lists and workspaces of the same lengths, answer the same, leave the same
 -- where the matrix stood, and give the same eigenvalues, whatever the lists and the workspaces held. Assumes nothing.
 use Rattle.std.specs.Prelude.{Err, Ok}
-use Rattle.refusal.specs.Refusal.{Checked, passed}
 use Prim.Native.Nat.{ℕ}
 use mathlib.Core.Bool.{cond}
 use mathlib.Core.Path.{◌≡◌, refl, sym, ap, ◌∙◌}
@@ -11,7 +10,7 @@ use lib.ListN.{length}
 use lib.Ieee.{Float}
 use Rattle.pass.specs.Pair.{pair}
 use Rattle.pass.specs.Block.{block_at, eigvals_of}
-use Rattle.refusal.specs.Refusal.{if_passed}
+use Rattle.refusal.specs.Refusal.{Checked, passed, if_passed}
 use Rattle.refusal.proofs.ChecksInTurn.{refused_not_passed}
 use Rattle.schur.specs.Run.{ran_of}
 use Rattle.schur.proofs.Lent.{lent_not_felt}

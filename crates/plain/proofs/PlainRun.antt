@@ -1,8 +1,6 @@
 -- The plain entry is the decomposition without Q, with the tolerance 2 ^ -52 and the budget 10,000, and the real reader's last check; at order 2 it makes no
 -- run. So what is proved of 7 and 9 for the decomposition holds of the plain entry's 7 and 9. Assumes nothing.
 use Rattle.std.specs.Prelude.{Err, None, Ok, Option, Some}
-use Rattle.refusal.specs.Refusal.{Checked, passed}
-use Rattle.decomposition.specs.Decomposition.{Decomposed}
 use Rattle.pass.specs.declared.block.Values.{Values}
 use Prim.Native.Nat.{ℕ, ◌≤◌}
 use mathlib.Core.Bool.{Bool, true, false, cond}
@@ -18,13 +16,13 @@ use Rattle.pass.specs.Pair.{pair}
 use Rattle.pass.specs.Block.{block_at, eigvals_of}
 use Rattle.refusal.specs.declared.refusal.Refusal.{Refusal}
 use Rattle.refusal.specs.declared.refusal.Refusal.TheVariants.{WrongLength, ComplexEigenvalues}
-use Rattle.refusal.specs.Refusal.{without_place, told_of, checked_told}
+use Rattle.refusal.specs.Refusal.{Checked, passed, without_place, told_of, checked_told}
 use Rattle.refusal.specs.Checks.{length_check, given_checks}
 use Rattle.refusal.proofs.ChecksInTurn.{next_passes, Only, only_next, only_refuse, only_at}
 use Rattle.refusal.proofs.PassedChecks.{length_passes, matrices_passes, given_passed, only_length, only_given}
 use Rattle.schur.specs.Run.{count_of}
 use Rattle.decomposition.specs.Checks.{tolerance_fits, budget_fits, all_lengths}
-use Rattle.decomposition.specs.Decomposition.{Outcome, decomposition_of, decomposed_told}
+use Rattle.decomposition.specs.Decomposition.{Decomposed, Outcome, decomposition_of, decomposed_told}
 use Rattle.decomposition.proofs.CheckedArguments.{Sizes, right_passed, all_lent}
 use Rattle.decomposition.proofs.Touched.{checks_of, run_judged}
 use Rattle.decomposition.proofs.Count.{seven_reached, reached_seven}

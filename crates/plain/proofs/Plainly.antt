@@ -1,7 +1,6 @@
 -- The plain entry, told of the pieces that the code has in hand. Assumes nothing.
 use Rattle.std.specs.Prelude.{Err, None, Ok, Option, Some}
 use Rattle.std.specs.Option.{ok_or}
-use Rattle.refusal.specs.Refusal.{Checked, passed}
 use Prim.Native.Nat.{ℕ}
 use mathlib.Core.Bool.{Bool, true, false, not}
 use mathlib.Core.Path.{◌≡◌, refl, sym, ap, ◌∙◌}
@@ -21,18 +20,18 @@ use Rattle.pass.specs.declared.block.Values.{Values}
 use Rattle.schur.specs.Run.{Left, run_fits, ran_of, run_of, work_after}
 use Rattle.refusal.specs.declared.refusal.Refusal.{Refusal}
 use Rattle.refusal.specs.declared.refusal.Refusal.TheVariants.{ResultNotFinite, ComplexEigenvalues}
-use Rattle.refusal.specs.Refusal.{at, refuse_at, ◌next◌, if_passed}
-use Rattle.refusal.specs.Checks.{order_checks, given_checks}
-use Rattle.refusal.proofs.ChecksInTurn.{next_before}
+use Rattle.refusal.specs.Refusal.{Checked, passed, at, refuse_at, ◌next◌, if_passed}
+use Rattle.refusal.specs.Checks.{order_checks, entry_checks, given_checks}
+use Rattle.refusal.proofs.ChecksInTurn.{next_before, next_back, in_turn}
 use Rattle.refusal.proofs.PassedChecks.{order_then, length_passed, length_then}
 use Rattle.refusal.proofs.Searching.{Sought, sought_none, sought_more}
 use Rattle.decomposition.specs.Decomposition.{Outcome, outcome, Settlement, decided, judged}
 use Rattle.decomposition.proofs.CheckedArguments.{sizes_fit}
 use Rattle.eigenvalues.specs.Readers.{pair_check, diagonal, Read, read, left_by}
 use Rattle.eigenvalues.proofs.DiagonalSearch.{place_here, place_none}
-use Rattle.plain.specs.Plain.{plain_lengths, Sized, both_of, plain_two, plain_budget, plain_asked, plain_ran}
 use Rattle.plain.specs.Plain.{complex_checked, plain_run, plain_read, plain_left}
-use Rattle.plain.specs.Plain.{InPlace, in_place, plain_begun}
+use Rattle.plain.specs.Plain.{plain_lengths, Sized, both_of, plain_two, plain_budget, plain_asked, plain_ran, InPlace, in_place, plain_begun, plain, kept}
+use Rattle.plain.proofs.InPlace.{copied_in_place}
 
 -- ---- what the checks of the order and the lengths tell
 
@@ -48,6 +47,13 @@ sizes_passed n mn vn wn h =
 pub given_sized : (n mn vn wn : ℕ) (m : List Float) → given_checks (plain_lengths n mn vn wn) n m ≡ passed → Sized n mn vn wn
 unfolding given_checks
 given_sized n mn vn wn m h = sizes_passed n mn vn wn (next_before _ _ _ h)
+
+-- as the code makes the checks of the arguments
+pub given_made : (lengths : Checked) (n : ℕ) (m : List Float) → given_checks lengths n m ≡ ((order_checks n next lengths) next entry_checks n m)
+unfolding given_checks
+given_made lengths n m = next_back _ _ _
+
+pub ruleset arguments = (in_turn, given_made)
 
 -- so the run's own test holds
 pub run_fits_lem : {n mn vn wn : ℕ} → Sized n mn vn wn → run_fits n mn wn ≡ true
@@ -76,6 +82,8 @@ pub two_both : (v : Values) (values out : List Float) → is_finite v.first ≡ 
     → read passed out ≡ left_by (plain_two (Some v)) values
 unfolding plain_two left_by refuse_at if_passed
 two_both v values out h k e = rw (← place_none (sought_more (past_first v h) (omega arith) (ap not k)) (omega arith), e)
+
+pub ruleset two = (two_first, two_second, two_both)
 
 -- there are none
 pub two_none : {a : Checked} {r : Refusal} (v : Option Values) (values : List Float) → ok_or v ComplexEigenvalues ≡ Err r → a ≡ Err r
@@ -135,5 +143,9 @@ pub begun_kept : {r : Refusal} {a c : Checked} (n : ℕ) (t values w : List Floa
 unfolding plain_begun
 begun_kept n t values w h e = rw (h, e)
 
-pub begun_by : {c d : Checked} (n : ℕ) (t values w : List Float) → c ≡ d → plain_begun c n t values w ≡ plain_begun d n t values w
-begun_by n t values w e = ap (λ c. plain_begun c n t values w) e
+-- and of a copy
+pub copy_kept : {r : Refusal} {a c : Checked} (n : ℕ) (t values w : List Float) → c ≡ Err r → a ≡ Err r → plain a values w ≡ kept (plain_begun c n t values w)
+unfolding plain_begun
+copy_kept n t values w h e = rw (h, e)
+
+pub ruleset begun = (given_sized, sizes_passed, begun_kept, copy_kept, copied_in_place)

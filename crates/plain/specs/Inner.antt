@@ -1,11 +1,11 @@
 -- What the inner functions of the plain entry ask and promise. Nothing outside this crate cites it.
 use Rattle.refusal.specs.Refusal.{Checked}
-use Rattle.std.specs.Prelude.{ℕ, ◌≤◌, List, ◌≡◌, Float}
+use Rattle.std.specs.Prelude.{ℕ, List, ◌≡◌, Float}
 use Rattle.loops.specs.Constants.{zero}
 use Rattle.matrix.specs.Vectors.{filled}
 use Rattle.pass.specs.Block.{block_at, eigvals_of}
 use Rattle.eigenvalues.specs.Readers.{read, left_by}
-use Rattle.plain.specs.Plain.{Sized, plain_two, plain_ran, plain_run}
+use Rattle.plain.specs.Plain.{plain_two, plain_ran, plain_run}
 
 -- order 2: what was answered with the list that is left, and the workspace
 pub record TwoDone (m values w : List Float) (r : Checked) (values' w' : List Float) : Type 0 where

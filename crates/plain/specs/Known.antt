@@ -3,8 +3,7 @@
 -- e and l are matrices with known outcomes of document 01.
 use Rattle.std.specs.Prelude.{◌≡◌, refl, ℕ, ◌*◌, List, [], ◌∷◌, map}
 use Rattle.loops.specs.Times.{times}
-use Rattle.matrix.specs.Known.{shown}
-use Rattle.matrix.specs.Known.{numbers}
+use Rattle.matrix.specs.Known.{shown, numbers}
 use Rattle.decomposition.specs.Known.{opened_decomposition}
 use Rattle.eigenvalues.specs.Known.{opened_readers, answer_of, Case, case, lent, Fault, fault}
 use Rattle.plain.specs.Plain.{plain_lengths, plain_two, complex_checked, plain_run, plain_read, plain_left, InPlace}

@@ -1,8 +1,6 @@
 -- The plain entry: real eigenvalues alone, with the tolerance 2^-52 and the budget 10,000, and without Q. It works in
 -- place, where the matrix becomes T; a matrix that is kept is copied first.
 use Rattle.std.specs.Prelude.{Err, None, Ok, Option, Some}
-use Rattle.refusal.specs.Refusal.{Checked}
-use Rattle.decomposition.specs.Decomposition.{Decomposed}
 use Rattle.std.specs.Prelude.{ℕ, ◌*◌, ◌≤◌, false, cond, not, ◌≡◌, List, [], ◌∷◌, eqb, length, Float}
 use Rattle.loops.specs.Constants.{zero, epsilon}
 use Rattle.loops.specs.Rounded.{◌!◌}
@@ -15,10 +13,10 @@ use Rattle.pass.specs.Block.{block_at, eigvals_of}
 use Rattle.pass.specs.Pair.{pair}
 use Rattle.schur.specs.Run.{ran_of}
 use Rattle.refusal.specs.declared.refusal.Refusal.TheVariants.{WrongLength, ResultNotFinite, ComplexEigenvalues}
-use Rattle.refusal.specs.Refusal.{refuse_at, ◌next◌}
+use Rattle.refusal.specs.Refusal.{Checked, refuse_at, ◌next◌}
 use Rattle.refusal.specs.Search.{first_on_diagonal}
 use Rattle.refusal.specs.Checks.{order_checks, length_check, given_checks}
-use Rattle.decomposition.specs.Decomposition.{Outcome, judged}
+use Rattle.decomposition.specs.Decomposition.{Decomposed, Outcome, judged}
 use Rattle.eigenvalues.specs.Readers.{pair_check, diagonal, Read, read, left_by}
 
 -- ---- before the run: the matrix, one number for each row, the workspace

@@ -1,6 +1,6 @@
 // The plain entry: the eigenvalues of a matrix, if all are real. A matrix of order n lies column by column in
 // one slice.
-#![tactic(auto, using(refusal::proofs::ChecksInTurn::in_turn, refusal::proofs::ChecksInTurn::next_back), unfolding(crate::specs::Plain::plain_lengths, refusal::specs::Checks::given_checks))]
+#![tactic(auto)]
 
 ghost use Rattle.std.specs.Prelude.{◌≡◌, true, [], length, ◌*◌, ◌≤◌};
 ghost use Rattle.pass.specs.Block.{block_at, eigvals_of};
@@ -18,6 +18,7 @@ use pass::{Block, Setting, Values};
 use refusal::{Place, Refusal};
 
 // The order, then the lengths: of the matrix, of the list of eigenvalues, of the workspace.
+#[tactic(auto, using(refusal::proofs::ChecksInTurn::in_turn), unfolding(crate::specs::Plain::plain_lengths))]
 fn check_sizes(n: usize, mn: usize, vn: usize, wn: usize) -> Result<(), Refusal>
     ensures { result ≡ (order_checks n next plain_lengths n mn vn wn) }
 {
@@ -28,6 +29,7 @@ fn check_sizes(n: usize, mn: usize, vn: usize, wn: usize) -> Result<(), Refusal>
 }
 
 // And the entries behind them: all the arguments, in the order of document 01's table.
+#[tactic(auto, using(crate::proofs::Plainly::arguments))]
 fn check_arguments(m: &[f64], n: usize, vn: usize, wn: usize) -> Result<(), Refusal>
     ensures { result ≡ given_checks (plain_lengths n (length m.now) vn wn) n m.now }
 {
@@ -36,7 +38,7 @@ fn check_arguments(m: &[f64], n: usize, vn: usize, wn: usize) -> Result<(), Refu
 }
 
 // Two eigenvalues, if both are finite.
-#[tactic(auto, using(crate::proofs::Plainly::two_first, crate::proofs::Plainly::two_second, crate::proofs::Plainly::two_both))]
+#[tactic(auto, using(crate::proofs::Plainly::two))]
 fn two_values(v: Values, values: &mut [f64]) -> Result<(), Refusal>
     requires { length values.old ≡ 2 }
     ensures { read result values.new ≡ left_by (plain_two (Some v)) values.old }
@@ -87,8 +89,8 @@ fn decompose(t: &mut [f64], n: usize, work: &mut [f64]) -> Result<u64, Refusal>
         wanted: false,
         tolerance: f64::EPSILON,
     };
-    let mut q = [0.0f64; 0];
-    let ran = schur::do_decompose(t, &mut q, asked, 10000, work);
+    let mut q = [];
+    let ran = schur::do_decompose(t, &mut q, asked, 10_000, work);
     decomposition::decide(ran, t, &mut q, asked)
 }
 
@@ -117,6 +119,7 @@ fn plain_any(t: &mut [f64], n: usize, values: &mut [f64], work: &mut [f64]) -> R
 
 // The eigenvalues of the matrix in t, if all are real; t becomes T, unless the order is 2, and the workspace has
 // 2n numbers. Refused before the run, nothing is touched; after it, `values` is left as it was.
+#[tactic(auto, using(crate::proofs::Plainly::begun), unfolding(crate::specs::Plain::plain_placed_of))]
 pub fn plain_eigenvalues_in_place(
     t: &mut [f64],
     n: usize,
@@ -131,6 +134,7 @@ pub fn plain_eigenvalues_in_place(
 }
 
 // The same for entries that are known to be finite: they are not looked at again.
+#[tactic(auto, using(crate::proofs::Plainly::begun), unfolding(crate::specs::Plain::plain_finite_of))]
 pub fn plain_eigenvalues_of_finite(
     t: &mut [f64],
     n: usize,
@@ -179,6 +183,7 @@ fn plain_kept(m: &[f64], n: usize, values: &mut [f64], work: &mut [f64]) -> Resu
 }
 
 // The same for a matrix that is kept: a copy of it is worked on in place.
+#[tactic(auto, using(crate::proofs::Plainly::begun), unfolding(crate::specs::Plain::plain_placed_of))]
 pub fn plain_eigenvalues(
     m: &[f64],
     n: usize,

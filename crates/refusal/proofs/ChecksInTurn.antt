@@ -1,8 +1,8 @@
 -- Checks in turn: what follows where all have passed, and which refusals they may come to. Assumes nothing.
-use Rattle.std.specs.Prelude.{Err, None, Ok, Option, Some}
+use Rattle.std.specs.Prelude.{Err, None, Ok, Option, Some, IsErrAnd}
 use Rattle.refusal.specs.Refusal.{Checked, passed}
 use mathlib.Core.Bool.{Bool, true, false}
-use mathlib.Core.Path.{◌≡◌, refl, sym, subst, ◌∙◌}
+use mathlib.Core.Path.{◌≡◌, refl, sym, ap, subst, ◌∙◌}
 use Rattle.refusal.specs.declared.refusal.Place.{Place}
 use Rattle.refusal.specs.declared.refusal.Refusal.{Refusal}
 use Rattle.refusal.specs.Refusal.{refuse, refuse_at, ◌next◌}
@@ -68,6 +68,11 @@ next_first {x = x} {c = c} d e h = h ∙ sym (next_refused c d (sym e ∙ h))
 pub next_then : {x y c d : Checked} → x ≡ c → x ≡ passed → y ≡ d → y ≡ (c next d)
 unfolding ◌next◌
 next_then e h k = rw (← e, h) k
+
+-- What `?` hands on is what the check came to. With it: `question e f ∙ next_first _ ..`.
+pub question : {e : Refusal} {r x : Checked} → IsErrAnd r (λ f. f ≡ e) → x ≡ Err e → r ≡ x
+question {r = Ok u} h k = absurd h
+question {r = Err f} h k = ap Err h ∙ sym k
 
 -- grouped in another way
 pub next_assoc : (a b c : Checked) → ((a next b) next c) ≡ (a next (b next c))

@@ -14,7 +14,7 @@ use Rattle.refusal.specs.declared.refusal.Refusal.TheVariants.{OrderZero, OrderT
 use Rattle.refusal.specs.Refusal.{refuse, refuse_at, ◌next◌}
 use Rattle.refusal.specs.Search.{first_not_finite}
 use Rattle.refusal.specs.Checks.{order_checks, length_check, only_if, lent_lengths, matrix_lengths, entry_checks, given_checks}
-use Rattle.refusal.proofs.ChecksInTurn.{next_passed, next_passes, refuse_passed, refuse_at_passed, Only, only_next, only_refuse, only_at}
+use Rattle.refusal.proofs.ChecksInTurn.{in_turn, next_passed, next_passes, refuse_passed, refuse_at_passed, Only, only_next, only_refuse, only_at}
 
 -- ---- the order
 
@@ -72,6 +72,17 @@ pub asked_passes : (asked : Bool) (c : Checked) → (asked ≡ true → c ≡ pa
 unfolding only_if
 asked_passes true c h = h refl
 asked_passes false c h = refl
+
+-- for `grind`, in code that asks or does not
+pub asked_made : (c : Checked) → only_if true c ≡ c
+unfolding only_if
+asked_made c = refl
+
+pub unasked : (c : Checked) → only_if false c ≡ passed
+unfolding only_if
+unasked c = refl
+
+pub ruleset asked_in_turn = (in_turn, asked_made, unasked)
 
 -- what is lent for T and Q
 pub record Lent (wanted : Bool) (needs tn qn : ℕ) : Type 0 where

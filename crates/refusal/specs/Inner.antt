@@ -1,5 +1,9 @@
--- What a private function promises.
-use Rattle.std.specs.Prelude.{ℕ, Option, Some, None, cond, ltb}
+-- What private functions ask and promise.
+use Rattle.std.specs.Prelude.{◌≡◌, ℕ, ◌*◌, ◌≤◌, List, length, Float, Option, Some, None, cond, ltb}
+
+-- t holds a matrix of order n
+abbrev pub IsSquare : (n : ℕ) → (t : List Float) → Type 0
+IsSquare n t = (n ≤ 64) × (length t ≡ n * n)
 
 -- what a search below n has found, which comes to n where it finds none
 abbrev pub found : (n k : ℕ) → Option ℕ

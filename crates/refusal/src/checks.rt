@@ -36,7 +36,7 @@ pub fn check_length(has: usize, needs: usize, fault: Refusal) -> Result<(), Refu
 }
 
 // What is lent for T, then for Q if it is wanted.
-#[tactic(auto, using(crate::proofs::ChecksInTurn::in_turn), unfolding(crate::specs::Checks::lent_lengths, crate::specs::Checks::only_if))]
+#[tactic(auto, using(crate::proofs::PassedChecks::asked_in_turn), unfolding(crate::specs::Checks::lent_lengths))]
 pub fn check_lent(wanted: bool, needs: usize, tn: usize, qn: usize) -> Result<(), Refusal>
     ensures { result ≡ lent_lengths wanted needs tn qn }
 {
@@ -77,14 +77,12 @@ pub fn check_sizes(n: usize, mn: usize, others: Result<(), Refusal>) -> Result<(
 pub fn check_entries(m: &[f64], n: usize) -> Result<(), Refusal>
     ensures { result ≡ entry_checks n m.now }
 {
-    match first_not_finite(m, n) {
-        Some(p) => Err(Refusal::EntryNotFinite(p)),
-        None => Ok(()),
-    }
+    first_not_finite(m, n)
+        .map(Refusal::EntryNotFinite)
+        .map_or(Ok(()), Err)
 }
 
 // The order, the lengths, the entries; `others` are the lengths of what is lent beside the matrix.
-#[tactic(auto, using(crate::proofs::ChecksInTurn::in_turn), unfolding(crate::specs::Checks::given_checks))]
 pub fn check_given(m: &[f64], n: usize, others: Result<(), Refusal>) -> Result<(), Refusal>
     ensures { result
         ≡ given_checks (length_check WrongLength (length m.now) (n * n) next others) n m.now }
@@ -98,10 +96,9 @@ pub fn check_given(m: &[f64], n: usize, others: Result<(), Refusal>) -> Result<(
 pub fn check_result(t: &[f64], n: usize) -> Result<(), Refusal>
     ensures { result ≡ refuse_at ResultNotFinite (first_not_finite n t.now) }
 {
-    match first_not_finite(t, n) {
-        Some(p) => Err(Refusal::ResultNotFinite(p)),
-        None => Ok(()),
-    }
+    first_not_finite(t, n)
+        .map(Refusal::ResultNotFinite)
+        .map_or(Ok(()), Err)
 }
 
 // An entry spoils the quasi-triangular shape: 9.
@@ -109,8 +106,7 @@ pub fn check_result(t: &[f64], n: usize) -> Result<(), Refusal>
 pub fn check_shape(t: &[f64], n: usize) -> Result<(), Refusal>
     ensures { result ≡ refuse_at ShapeSpoiled (first_spoiling n t.now) }
 {
-    match first_spoiling(t, n) {
-        Some(p) => Err(Refusal::ShapeSpoiled(p)),
-        None => Ok(()),
-    }
+    first_spoiling(t, n)
+        .map(Refusal::ShapeSpoiled)
+        .map_or(Ok(()), Err)
 }

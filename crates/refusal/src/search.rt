@@ -6,11 +6,12 @@ ghost use Rattle.loops.specs.First.{first_from};
 ghost use Rattle.scalar.specs.Class.{is_finite};
 ghost use Rattle.matrix.specs.Fits.{block_fits};
 ghost use Rattle.refusal.specs.Search.{first_row, first_place, spoils, first_not_finite, first_spoiling};
-ghost use Rattle.refusal.specs.Inner.{found};
+ghost use Rattle.refusal.specs.Inner.{IsSquare, found};
 
 use crate::refusal::Place;
 
-// Which entries of a matrix are finite numbers, where `value` is the float that an entry stands for.
+// Which entries of a matrix are finite numbers, where `value` is the float that an entry stands for. A type beside the
+// entry's tells it, so that a crate above can tell it of arrays.
 pub trait Finite<E> {
     ghost value: { E → Float };
 
@@ -58,7 +59,7 @@ fn index_not_finite<E, F: Finite<E>>(t: &[E]) -> Option<usize>
     t.iter().position(|x| !F::is_finite(x))
 }
 
-// Its place.
+// The first entry that is NaN or infinite.
 pub fn first_entry_not_finite<E, F: Finite<E>>(t: &[E], n: usize) -> Option<Place>
     ensures { result ≡ first_not_finite n (map F.value t.now) }
 {
@@ -82,7 +83,8 @@ pub fn first_not_finite(t: &[f64], n: usize) -> Option<Place>
 // Whether the entry just below the diagonal in column j spoils the shape: it is not 0, and neither is the
 // one in the column before.
 fn just_below_spoils(t: &[f64], n: usize, j: usize) -> bool
-    requires { (n ≤ 64) × (length t.now ≡ n * n) × (j + 1 < n) }
+    requires square { IsSquare n t.now }
+    requires column { j + 1 < n }
     ensures { result ≡ spoils n t.now (j + 1) j }
 {
     if j == 0 || scalar::is_zero(matrix::entry(t, n, j + 1, j)) {
@@ -93,7 +95,8 @@ fn just_below_spoils(t: &[f64], n: usize, j: usize) -> bool
 
 // The first row of column j, from two below the diagonal on, that is not 0.
 fn row_far_below(t: &[f64], n: usize, j: usize) -> Option<usize>
-    requires { (n ≤ 64) × (length t.now ≡ n * n) × (j + 1 < n) }
+    requires square { IsSquare n t.now }
+    requires column { j + 1 < n }
     ensures { result ≡ found n (first_from (λ i. spoils n t.now i j) n (j + 2)) }
 {
     (j + 2..n).find(|i| !scalar::is_zero(t[j * n + *i]))
@@ -101,7 +104,8 @@ fn row_far_below(t: &[f64], n: usize, j: usize) -> Option<usize>
 
 // The first row of column j that spoils the shape.
 fn row_spoiling(t: &[f64], n: usize, j: usize) -> Option<usize>
-    requires { (n ≤ 64) × (length t.now ≡ n * n) × (j < n) }
+    requires square { IsSquare n t.now }
+    requires column { j < n }
     ensures { result ≡ found n (first_row (spoils n t.now) n j) }
 {
     if j + 1 == n {

@@ -7,4 +7,4 @@ pub mod Counting
 pub mod Windows
 pub mod Lengths
 pub mod RunAnswers
-mod CountedTurn
+mod Ends

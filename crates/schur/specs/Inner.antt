@@ -1,13 +1,13 @@
--- What the contracts of private functions name: which states may be turned, and where the next one stands. Nothing
+-- What the contracts of private functions name: which runs may be turned, and where the next turn stands. Nothing
 -- here need be believed: the public contract cites `Run` alone.
 use Rattle.std.specs.Prelude.{ℕ, ◌+◌, ◌*◌, ◌<◌, ◌≤◌, ◌≡◌, List, length, Float}
 use Rattle.matrix.specs.Vectors.{largest}
 use Rattle.window.specs.declared.Window.{Window}
 use Rattle.pass.specs.declared.setting.Setting.{Setting}
 use Rattle.pass.specs.Pair.{Pair, pair}
-use Rattle.schur.specs.declared.run.State.{State}
 use Rattle.schur.specs.declared.run.Opening.{Opening}
-use Rattle.schur.specs.Run.{Running, running, after, opened}
+use Rattle.schur.specs.declared.run.Progress.{Progress}
+use Rattle.schur.specs.Run.{Running, running, opened}
 
 -- T is a matrix of the order asked for, at most 64
 pub record Square (asked : Setting) (t : List Float) : Type 0 where
@@ -19,26 +19,32 @@ pub record Within (asked : Setting) (w : Window) : Type 0 where
   pub start : w.start ≤ w.end
   pub end : w.end < asked.order
 
--- the state s may be turned, so many `turns` at most: the machine has room for their count
-pub record Turnable (asked : Setting) (turns : ℕ) (t : List Float) (s : State) : Type 0 where
-  pub matrix : Square asked t
-  pub window : Within asked s.window
-  pub count : s.passes + turns ≤ 18446744073709551615
+-- T and Q of a run under way, and with them where it stands
+abbrev pub matrices : Progress → Pair
+matrices r = pair r.t.now r.q.now
 
--- a turn from the state s, which is `whole` by definition, has come to the state r and to T and Q, p; it counts one
--- pass, or none
-pub record Turned (asked : Setting) (s : State) (whole : Running) (r : State) (p : Pair) : Type 0 where
-  pub is : running r p ≡ whole
-  pub window : Within asked r.window
-  pub count : r.passes ≤ s.passes + 1
+abbrev pub stands : Progress → Running
+stands r = running r.state (matrices r)
 
--- a pass has been made from the state s, and T was delimited from e: the state is r then, whatever Q is
-pub record PassCounted (asked : Setting) (e : ℕ) (s : State) (t : List Float) (r : State)
-    (t' : List Float) : Type 0 where
-  pub is : (q : List Float) → running r (pair t' q) ≡ after asked e s (pair t q)
-  pub start : r.window.start ≤ r.window.end
-  pub end : r.window.end ≤ e
-  pub count : r.passes ≡ s.passes + 1
+-- it may be turned, so many `turns` at most: the machine has room for their count
+pub record Turnable (turns : ℕ) (r : Progress) : Type 0 where
+  pub matrix : Square r.asked r.t.now
+  pub window : Within r.asked r.state.window
+  pub count : r.state.passes + turns ≤ 18446744073709551615
+
+-- r' works on what r works on: the same T and Q, and the same is asked for
+pub record Same (r r' : Progress) : Type 0 where
+  pub t : r'.t.ghost_name ≡ r.t.ghost_name
+  pub q : r'.q.ghost_name ≡ r.q.ghost_name
+  pub asked : r'.asked ≡ r.asked
+
+-- a turn from r, which is `whole` by definition, has come to r'; it counts one pass, or none
+pub record Turned (r : Progress) (whole : Running) (r' : Progress) : Type 0 where
+  pub is : stands r' ≡ whole
+  pub same : Same r r'
+  pub matrix : Square r'.asked r'.t.now
+  pub window : Within r'.asked r'.state.window
+  pub count : r'.state.passes ≤ r.state.passes + 1
 
 -- a run has been opened on T and Q, p, with the workspace w: it stands at r, and T and Q are p'
 pub record Begun (asked : Setting) (p : Pair) (w : List Float) (r : Opening) (p' : Pair) : Type 0 where

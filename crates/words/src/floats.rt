@@ -35,7 +35,7 @@ pub fn encode(a: &[f64], b: &mut [u8])
     ensures read_back { length b.old ≡ 8 * length a.now
         → floats_of b.new ≡ a.now }
 {
-    if b.len() / 8 != a.len() || b.len() % 8 != 0 {
+    if b.len() != 8 * a.len() {
         return;
     }
     for (k, x) in a.iter().enumerate() {

@@ -1,7 +1,8 @@
 -- `header::read_header` meets its contract. Assumes nothing.
 use mathlib.Core.Path.{◌∙◌}
+use Rattle.words.proofs.Chunks.{le64_bytes}
 use Rattle.header.specs.Record.{header_of}
-use Rattle.header.proofs.Fields.{le16_bytes, le32_bytes, le64_bytes}
+use Rattle.header.proofs.Fields.{le16_bytes, le32_bytes}
 use Rattle.header.proofs.read_header.Goals as goal
 
 pub returns : goal.returns

@@ -11,7 +11,7 @@ loop-k-init c = record { reals = filled_none _ _ _ (omega arith); imaginaries = 
 pub loop-k-preserved : goal.loop-k-preserved
 loop-k-preserved c =
     let l = c.loop-k in
-    let e = c.eigenvalue_of-e.ensures ∙ eigenvalue_by _ _ _ _ _ l.invariant.answered c.answer_at-here.ensures in
+    let e = c.eigenvalue-e.ensures ∙ eigenvalue_by _ _ _ _ _ l.invariant.answered c.answer_at-here.ensures in
     record {
       reals = filled_more l.invariant.reals (omega arith) (ap (λ p. p.re) e);
       imaginaries = filled_more l.invariant.imaginaries (omega arith) (ap (λ p. p.im) e);

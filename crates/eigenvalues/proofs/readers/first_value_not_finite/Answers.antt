@@ -13,7 +13,7 @@ use Rattle.eigenvalues.proofs.readers.first_value_not_finite.Goals as goal
 tested : (c : After-is_finite)
     → not c.is_finite.result ≡ not_finite_at c.args.n c.args.t.now c.loop-k.k
 tested c =
-    finite_by _ _ _ _ _ _ _ c.loop-k.invariant.answered c.answer_at-here.ensures c.eigenvalue_of.ensures c.is_finite.ensures
+    finite_by _ _ _ _ _ _ _ c.loop-k.invariant.answered c.answer_at-here.ensures c.eigenvalue.ensures c.is_finite.ensures
 
 pub returns-then-not-is_finite : goal.returns-then-not-is_finite
 returns-then-not-is_finite c =

@@ -1,17 +1,12 @@
 -- `refusal::search::first_spoiling` meets its contract. Assumes nothing.
 use native.Mathlib.Omega.{arith}
-use mathlib.Core.Path.{◌≡◌, sym, ◌∙◌}
-use mathlib.Core.Bool.{true}
+use mathlib.Core.Path.{sym, ◌∙◌}
 use lib.ListN.{length}
-use Rattle.matrix.specs.Fits.{block_fits}
 use Rattle.matrix.proofs.Fitting.{fits}
 use Rattle.refusal.specs.Search.{first_spoiling}
 use Rattle.refusal.proofs.Searching.{searched_none, searched_more, searched_here, searched_done, some_found, none_found}
 use Rattle.refusal.proofs.search.first_spoiling.Goals.{Else-not-is_whole}
 use Rattle.refusal.proofs.search.first_spoiling.Goals as goal
-
-whole : (c : Else-not-is_whole) → let x = c.args in block_fits x.n (length x.t.now) x.n x.n ≡ true
-whole c = sym c.is_whole.ensures ∙ c.if-not-is_whole.false
 
 pub returns-then-not-is_whole : goal.returns-then-not-is_whole
 unfolding first_spoiling
@@ -20,11 +15,11 @@ returns-then-not-is_whole c = rw (sym c.is_whole.ensures ∙ c.if-not-is_whole.t
 pub loop-col-init : goal.loop-col-init
 loop-col-init c = searched_none _ _
 
-pub row_spoiling-requires : goal.row_spoiling-requires
-row_spoiling-requires c =
+pub row_spoiling-requires-clause-square : goal.row_spoiling-requires-clause-square
+row_spoiling-requires-clause-square c =
     let x = c.args in
     let f = fits x.n (length x.t.now) x.n x.n (sym c.is_whole.ensures ∙ c.if-not-is_whole.false) in
-    (f.order, f.size, omega arith)
+    (f.order, f.size)
 
 pub returns-in-Some : goal.returns-in-Some
 unfolding first_spoiling
