@@ -33,7 +33,8 @@ struct Lent {
 }
 
 impl Lent {
-    // The first place that does not hold what is expected. A slot that there is not has 9999, which no slice has.
+    // The first place that does not hold what is expected. For a slot that there is not, 9999 is told, a place that no
+    // slice has.
     fn unlike(self, came: &[f64], before: &Room, slots: &Slots) -> Option<usize> {
         match self.left {
             Left::AsBefore => unlike(came, before),

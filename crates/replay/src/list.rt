@@ -52,6 +52,7 @@ fn read<'a, R: Read>(
     let bytes = room.get_mut(..usize::from(head.words) * 8)?;
     source.read_exact(bytes).ok()?;
     let (words, _) = bytes.as_chunks();
+    // The letters of the list's format; an enum would only name the three once more.
     match head.kind {
         b'g' => Some(Record::Group(bytes.get(..small)?)),
         b'n' => {

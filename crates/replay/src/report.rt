@@ -78,8 +78,6 @@ impl Report {
 
     pub(crate) fn end(&self, rt: &impl Print) {
         self.close(rt);
-        let met = self.met;
-        let all = self.all;
-        let _ = println!(rt; "{met}{all}");
+        let _ = println!(rt; "{}{}", self.met, self.all);
     }
 }
