@@ -21,7 +21,7 @@ use Rattle.words.proofs.Between.{floats_length}
 use Rattle.door.specs.Lists.{ListEntry, Real, Complex, Plain}
 use Rattle.answer.specs.Answer.{checked_number}
 use Rattle.door.specs.Inner.{second_size, evaluated, evaluated_by, second_written}
-use Rattle.door.specs.Lists.{second_length, list_lengths, list_checks, complex_listed, real_bytes, complex_bytes, plain_from, plain_bytes, lists_bytes}
+use Rattle.door.specs.Lists.{list_lengths, list_checks, complex_listed, real_bytes, complex_bytes, plain_from, plain_bytes, lists_bytes}
 use Rattle.door.proofs.ListLengths.{list_fit, list_entries}
 
 -- what is written where all checks have passed: of a list that was read then

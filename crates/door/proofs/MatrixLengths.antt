@@ -1,7 +1,6 @@
 -- Where the checks of the decomposition on the bytes have passed: the lengths, and that the run's own test holds. Assumes nothing.
 use Rattle.refusal.specs.Refusal.{passed}
 use Prim.Native.Nat.{ℕ, ◌*◌, ◌≤◌}
-use native.Mathlib.Omega.{arith}
 use mathlib.Core.Path.{◌≡◌, refl, sym}
 use mathlib.Core.Bool.{true}
 use mathlib.Core.List.{List}
