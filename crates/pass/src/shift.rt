@@ -15,8 +15,8 @@ use crate::setting::Setting;
 use matrix::Vector;
 use window::Window;
 
-// The first column, in three fields and no array: so it stays in registers, and what the steps after the first read of T
-// is read number by number. As a block it would wait for the stores before it: a seventh of a pass at order 3.
+// The first column, in three fields and no array: so it stays in registers, and what the later steps read of T is read
+// number by number. As a block it would wait for the stores before it: a seventh of a pass at order 3.
 #[derive(Clone, Copy)]
 struct First {
     x: f64,
