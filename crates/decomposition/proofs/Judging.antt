@@ -81,6 +81,10 @@ pub decided_accepted : {u : Unit {0}} (asked : Setting) (passes : ℕ) (p : Pair
 unfolding decided settled verdict passes_of
 decided_accepted asked passes p h = rw h
 
+pub judged_refused : {r : Refusal} {a : Decomposed} {ran : Ran} (asked : Setting) (passes : ℕ) (p : Pair) → ran ≡ Ok passes → result_checks asked p ≡ Err r → a ≡ Err r
+    → a ≡ (decided asked ran p).answer
+judged_refused asked passes p end h e = rw (end, decided_refused asked passes p h) e
+
 pub ruleset judging = (decided_stopped, decided_refused, decided_accepted)
 
 -- by whether that is refused, T and Q are NaN throughout or stay as they are
