@@ -57,3 +57,5 @@ pub root_put : (m x : List Float) → 0 < length m → set x 0 (root_of (m ! 0))
 unfolding rooted
 root_put [] x h = absurd (omega arith)
 root_put (a ∷ m) x h = refl
+
+pub ruleset root_by_lengths = (none_given, none_lent, root_put)

@@ -65,8 +65,8 @@ fn decompose(
     decomposed(decomposition::try_new(m, asked, c.budget, x, y, z))
 }
 
-// The root of the first number that is given becomes the first that is lent. Where one is missing, nothing is done.
-#[tactic(auto, using(crate::proofs::Calling::none_given, crate::proofs::Calling::none_lent, crate::proofs::Calling::root_put,))]
+// The root of the first number that is given becomes the first that is lent: a no-op unless both are there.
+#[tactic(auto, using(crate::proofs::Calling::root_by_lengths))]
 fn root(m: &[f64], x: &mut [f64])
     ensures { x.new ≡ rooted m.now x.old }
 {
@@ -80,6 +80,7 @@ pub fn run(c: Call, m: &[f64], x: &mut [f64], y: &mut [f64], z: &mut [f64]) -> A
     ensures { came result x.new y.new z.new
         ≡ call_of c m.now x.old y.old z.old }
 {
+    // The one place that picks an entry: which one it is stands in the list of calls.
     match c.entry {
         Entry::WithQ => decompose(c, true, m, x, y, z),
         Entry::WithoutQ => decompose(c, false, m, x, y, z),

@@ -3,16 +3,16 @@ use Rattle.std.specs.Prelude.{Err}
 use Rattle.refusal.specs.Refusal.{passed}
 use Prim.Native.Nat.{ℕ, ◌*◌, ◌≤◌}
 use native.Mathlib.Omega.{arith}
-use mathlib.Core.Path.{◌≡◌, sym, ap, ◌∙◌}
+use mathlib.Core.Path.{◌≡◌, refl, sym, ap, ◌∙◌}
 use mathlib.Core.List.{List}
 use lib.ListN.{length, replicate, take}
 use Rattle.loops.specs.Constants.{zero}
 use Rattle.loops.specs.Place.{square_64}
 use Rattle.matrix.specs.Vectors.{zeros}
 use Rattle.refusal.specs.declared.refusal.Refusal.{Refusal}
-use Rattle.refusal.specs.Refusal.{if_passed}
-use Rattle.refusal.specs.Checks.{entry_checks}
-use Rattle.refusal.proofs.ChecksInTurn.{next_passed, next_refused}
+use Rattle.refusal.specs.Refusal.{◌next◌, if_passed}
+use Rattle.refusal.specs.Checks.{order_checks, given_checks, entry_checks}
+use Rattle.refusal.proofs.ChecksInTurn.{in_turn, next_passed, next_refused}
 use Rattle.refusal.proofs.PassedChecks.{length_passed, entries_passes, given_passed}
 use Rattle.eigenvalues.specs.Readers.{readable, real_checks, complex_checks}
 use Rattle.words.specs.Floats.{floats_of}
@@ -21,6 +21,16 @@ use Rattle.door.specs.Lists.{ListEntry, Real, Complex, Plain}
 use Rattle.door.specs.Inner.{ListRoomy, ListRooms, second_size}
 use Rattle.answer.specs.Answer.{refusal_number, checked_number}
 use Rattle.door.specs.Lists.{second_length, list_lengths, list_checks, complex_listed, real_bytes, complex_bytes, plain_from, plain_bytes, lists_bytes}
+
+-- ---- in turn
+
+-- in code: the checks that an entry makes first
+pub list_turns : (e : ListEntry) (n : ℕ) (m : List ℕ) (rn jn : ℕ)
+    → list_checks e n m rn jn ≡ (order_checks n next list_lengths e n (length m) rn jn next entry_checks n (floats_of m))
+unfolding list_checks given_checks
+list_turns e n m rn jn = refl
+
+pub ruleset list_in_turn = (in_turn, list_turns)
 
 -- ---- passed
 

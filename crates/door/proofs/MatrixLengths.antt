@@ -1,8 +1,14 @@
 -- Where the checks of the decomposition on the bytes have passed: the lengths, and that the run's own test holds. Assumes nothing.
-use Rattle.refusal.specs.Refusal.{passed}
+use Rattle.refusal.specs.declared.refusal.Refusal.TheVariants.{ToleranceOutside, BudgetOutside}
+use Rattle.refusal.specs.Refusal.{passed, refuse, ◌next◌}
+use Rattle.refusal.specs.Checks.{order_checks, matrix_lengths, entry_checks}
+use Rattle.refusal.proofs.ChecksInTurn.{in_turn}
+use Rattle.decomposition.specs.Checks.{tolerance_fits, budget_fits, argument_checks}
+use Rattle.words.specs.Floats.{floats_of}
+use lib.Ieee.{binary64, of_bits}
 use Prim.Native.Nat.{ℕ, ◌*◌, ◌≤◌}
 use mathlib.Core.Path.{◌≡◌, refl, sym}
-use mathlib.Core.Bool.{true}
+use mathlib.Core.Bool.{true, not}
 use mathlib.Core.List.{List}
 use lib.ListN.{length, replicate, take}
 use Rattle.loops.specs.Constants.{zero}
@@ -14,6 +20,17 @@ use Rattle.door.specs.declared.matrices.Request.{Request}
 use Rattle.words.proofs.Between.{fresh_zeros, fresh_length}
 use Rattle.door.specs.Matrices.{matrix_checks}
 use Rattle.door.specs.Inner.{MatrixRoomy, MatrixRooms}
+
+-- in code: the checks in turn
+pub matrix_turns : (r : Request) (m : List ℕ) (tn qn : ℕ) → matrix_checks r m tn qn ≡ (order_checks r.order
+    next matrix_lengths r.wanted (8 * (r.order * r.order)) (length m) tn qn
+    next refuse (not (tolerance_fits (of_bits binary64 r.tolerance))) ToleranceOutside
+    next refuse (not (budget_fits r.budget)) BudgetOutside
+    next entry_checks r.order (floats_of m))
+unfolding matrix_checks argument_checks
+matrix_turns r m tn qn = refl
+
+pub ruleset matrix_in_turn = (in_turn, matrix_turns)
 
 pub record MatrixFit (r : Request) (mn tn qn : ℕ) : Type 0 where
   pub some : 1 ≤ r.order

@@ -110,7 +110,7 @@ fn check_lengths<L: List>(n: usize, mn: usize, rn: usize, jn: usize) -> Result<(
 }
 
 // What each entry checks first, in the order of document 01's table.
-#[tactic(auto, using(refusal::proofs::ChecksInTurn::in_turn), unfolding(crate::specs::Lists::list_checks, refusal::specs::Checks::given_checks))]
+#[tactic(auto, using(crate::proofs::ListLengths::list_in_turn))]
 fn check_arguments<L: List>(n: usize, m: &[u8], rn: usize, jn: usize) -> Result<(), Refusal>
     ensures { result ≡ list_checks L.entry n m.now rn jn }
 {

@@ -66,7 +66,7 @@ fn check_values(m: &[u8], r: Request) -> Result<(), Refusal>
 }
 
 // The arguments, in the order of document 01's table; tn and qn are the lengths of what is lent, in bytes.
-#[tactic(auto, using(refusal::proofs::ChecksInTurn::in_turn), unfolding(crate::specs::Matrices::matrix_checks, decomposition::specs::Checks::argument_checks))]
+#[tactic(auto, using(crate::proofs::MatrixLengths::matrix_in_turn))]
 pub(crate) fn check_arguments(m: &[u8], r: Request, tn: usize, qn: usize) -> Result<(), Refusal>
     ensures { result ≡ matrix_checks r m.now tn qn }
 {

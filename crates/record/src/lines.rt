@@ -88,6 +88,7 @@ impl Page<'_> {
         self.byte(b'\n');
     }
 
+    // Two lists by one place, which is printed too: `zip` and `enumerate` are no plainer.
     pub(crate) fn eigenvalues(&mut self, n: usize, re: &[f64], im: &[f64])
         requires { EigenvaluesLent n (39 * n) self.old re.now im.now }
         ensures { Puts (eigenvalue_lines n re.now im.now) (39 * n) self.old self.new }

@@ -44,6 +44,7 @@ impl<'a> Page<'a> {
         }
     }
 
+    // By the digits of `io`, which its contract tells; std's formatting promises none.
     pub(crate) fn decimal(&mut self, n: u64)
         requires { HasRoom (length (decimal n)) self.old }
         ensures { Puts (decimal n) (length (decimal n)) self.old self.new }

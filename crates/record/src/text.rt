@@ -117,8 +117,8 @@ pub fn room() -> [u8; 8213]
     [0; 8213]
 }
 
-// The text for an input, whatever its bytes are, at the front of `text`; its length is answered. Where less than
-// 65,536 bytes are lent for it nothing is done, and 0 is answered.
+// The text for an input, whatever its bytes are, at the front of `text`; its length is answered. A no-op that answers 0
+// unless at least 65,536 bytes are lent for it.
 pub fn answer(input: &[u8], text: &mut [u8]) -> usize
     ensures text_after { page result text.new ≡ printed (text_of input.now) text.old }
     ensures prefix_len { IsPrefixLen result text.new }
