@@ -21,6 +21,7 @@ pub struct Turn {
 }
 
 // Where row i of column j of a matrix of order n lies.
+// `reflection` has its own: both ask that the place is there, which no public function may.
 #[tactic(auto, using(loops::specs::Place::placed))]
 fn at(n: usize, i: usize, j: usize) -> usize
     requires { (n ≤ 64) × (i < n) × (j < n) }

@@ -27,6 +27,7 @@ pub enum Stopped {
 }
 
 // A run under way: T and Q, what is asked for, and where it stands.
+// What is done before it stands anywhere takes the slices.
 #[derive(Drop)]
 struct Progress<'a> {
     t: &'a mut [f64],
