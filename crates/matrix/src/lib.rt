@@ -1,4 +1,6 @@
-// Sums and building stones on a matrix that lies column by column in one slice.
+// Sums and building stones on a matrix that lies column by column in one slice. Slice and order go apart, here and in
+// the crates above: each public function says what it does where they do not fit, and C calls it so. Loops go by row or
+// column, of which places are made.
 #![tactic(auto)]
 
 mod blas;

@@ -1,4 +1,5 @@
-// Every number of a slice times, or divided by, one number.
+// Every number of a slice times, or divided by, one number: two loops, since a closure handed to a third is longer than
+// the line in which they differ.
 ghost use Rattle.std.specs.Prelude.{◌≡◌};
 ghost use Rattle.matrix.specs.Vectors.{scaled, unscaled};
 

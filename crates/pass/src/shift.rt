@@ -1,5 +1,5 @@
 // One double-shift pass over a window of three or more rows. T is t, Q is q; q is rewritten only where it is
-// wanted.
+// wanted. They go as two slices: most of the parts of a step take T alone.
 ghost use Rattle.std.specs.Prelude.{◌≡◌, ◌+◌, ◌<◌, ◌≤◌};
 ghost use Rattle.loops.specs.Constants.{one};
 ghost use Rattle.matrix.specs.Sum.{bare};
