@@ -68,6 +68,7 @@ fn check_result(t: &[f64], q: &[f64], asked: Setting) -> Result<(), Refusal>
 }
 
 // The budget was reached: 7. That an argument does not fit is never met here, since the lengths were checked before.
+// Neither type is of this crate, so it can't be a `From`.
 #[tactic(auto, unfolding(crate::specs::Inner::refusal_of))]
 fn refusal_of(stopped: Stopped) -> Refusal
     ensures { result ≡ refusal_of stopped }

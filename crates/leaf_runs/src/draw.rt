@@ -60,6 +60,7 @@ fn pattern(seed: usize, place: usize) -> usize
     ensures { result < 44 }
 {
     let k = seed % 64 * 5 + place % 128 * 9;
+    // A seed is a number of the text that is read, and so is its kind.
     match seed % 8 {
         // ordinary numbers
         0 => k % 23,
@@ -84,7 +85,7 @@ pub(crate) fn drawn(seed: usize, place: usize) -> f64 {
     scalar::of_bits(PATTERNS[pattern(seed, place)])
 }
 
-// The first 81 numbers of a seed: a call is given some of them, order 9 at most.
+// The first 81 numbers of a seed: a call is given some of them, order 9 at most, so the room is fixed.
 pub(crate) fn numbers_of(seed: usize) -> [f64; 81] {
     let mut numbers = [0.0; 81];
     for (place, x) in numbers.iter_mut().enumerate() {

@@ -114,10 +114,7 @@ fn rows_at(k: usize, end: usize) -> usize
     requires { (k < 64) × (end < 64) }
     ensures { result ≡ rows_at k end }
 {
-    if k + 4 < end + 1 {
-        return k + 4;
-    }
-    end + 1
+    (k + 4).min(end + 1)
 }
 
 // The step at k by the column, in a pass over the window w.

@@ -53,7 +53,8 @@ fn two_values(v: Values, values: &mut [f64]) -> Result<(), Refusal>
     Ok(())
 }
 
-// A matrix of order 2 as a block.
+// A matrix of order 2 as a block. `pass` and `eigenvalues` read a block out of a larger matrix: a function for all
+// three would be public, so it would test what they know.
 fn block_of(m: &[f64]) -> Block
     requires { length m.now ≡ 4 }
     ensures { result ≡ block_at 2 0 m.now }
@@ -148,7 +149,7 @@ pub fn plain_eigenvalues_of_finite(
     plain_any(t, n, values, work)
 }
 
-// A matrix that is kept: a copy of it is worked on, in room for ROOM numbers.
+// A matrix that is kept: a copy of it is worked on, in room for ROOM numbers: nothing here asks for memory.
 fn plain_in<const ROOM: usize>(
     m: &[f64],
     n: usize,

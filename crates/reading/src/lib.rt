@@ -42,6 +42,7 @@ pub fn fill<R: Read>(source: &mut R, buf: &mut [u8]) -> io::Result<usize>
 {
     let mut piece = [0; 4096];
     let mut done = 0;
+    // The step is what a read brings, so no range stands for it.
     while done < buf.len() {
         let room = (buf.len() - done).min(4096);
         let got = source.read(&mut piece[..room]);

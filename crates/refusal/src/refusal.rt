@@ -27,7 +27,7 @@ pub enum Refusal {
     InputLengthWrong,
 }
 
-// Document 01's number, and the place; row 0 and column 0 where none is told.
+// Document 01's number, and the place, as C and the program's text have them; row 0 and column 0 where none is told.
 #[derive(Clone, Copy, Debug, PartialEq, Eq)]
 pub struct Told {
     pub number: u64,

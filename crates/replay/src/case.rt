@@ -33,8 +33,8 @@ struct Lent {
 }
 
 impl Lent {
-    // The first place that does not hold what is expected. For a slot that there is not, 9999 is told, a place that no
-    // slice has.
+    // The first place that does not hold what is expected. For a slot that there is not it is 9999, which no slice has: that
+    // number is printed.
     fn unlike(self, came: &[f64], slots: &Slots) -> Option<usize> {
         match self.left {
             Left::AsBefore => unlike(came, &slots.filled(self.from)),
@@ -70,6 +70,7 @@ pub(crate) struct Case {
     lent: [Lent; 3],
 }
 
+// `Entry` is of another crate, so this can't be a `TryFrom`.
 fn entry_of(number: u64) -> Option<Entry> {
     match number {
         1 => Some(Entry::WithQ),

@@ -1,6 +1,6 @@
 // What calls are given and what lent memory is filled with, as the list has it so far.
 
-// Order 65 has its lengths too.
+// Order 65 has its lengths too. Fixed, as what is lent to the library is.
 const ROOM: usize = 4225;
 
 type Room = [f64; ROOM];

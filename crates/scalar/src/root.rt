@@ -43,6 +43,7 @@ fn lifted(w: u64) -> Place
 {
     let mut top = w * 1024;
     let mut h = 26;
+    // Two digits at a turn, until the first is there: by `leading_zeros` the shift would have to be made even.
     while top < 0x4000_0000_0000_0000 {
         top *= 4;
         h -= 1;
