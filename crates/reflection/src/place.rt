@@ -1,4 +1,5 @@
-// Where an entry of a matrix lies. `givens` has its own: both ask that the place is there, which no public function may.
+// Where an entry of a matrix lies. `givens` has its own: both ask that the place is there, which no public function
+// may.
 ghost use Rattle.std.specs.Prelude.{◌+◌, ◌<◌, ◌≤◌};
 ghost use Rattle.reflection.specs.Inner.{PlaceOf};
 

@@ -1,6 +1,6 @@
 // Columns and rows reflected by an axis of N numbers, as a pass uses them. Columns: no zero leads the sum. Rows: one
-// pass over the rows, and each is read before any of it is rewritten, so that its numbers stay in registers. For an axis
-// in a slice, see `columns`, whose sums are others, in eight lanes, and `rows`, which goes eight rows at a time.
+// pass over the rows, and each is read before any of it is rewritten, so that its numbers stay in registers. For an
+// axis in a slice, see `columns`, whose sums are others, in eight lanes, and `rows`, which goes eight rows at a time.
 ghost use Rattle.std.specs.Prelude.{◌≡◌, ◌+◌, ◌*◌, ◌<◌, ◌≤◌, length};
 ghost use Rattle.loops.specs.Constants.{one};
 ghost use Rattle.loops.specs.Place.{place};

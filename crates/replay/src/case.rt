@@ -33,8 +33,8 @@ struct Lent {
 }
 
 impl Lent {
-    // The first place that does not hold what is expected. For a slot that there is not it is 9999, which no slice has: that
-    // number is printed.
+    // The first place that does not hold what is expected. For a slot that there is not it is 9999, which no slice
+    // has: that number is printed.
     fn unlike(self, came: &[f64], slots: &Slots) -> Option<usize> {
         match self.left {
             Left::AsBefore => unlike(came, &slots.filled(self.from)),
