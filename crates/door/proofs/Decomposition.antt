@@ -17,7 +17,7 @@ use Rattle.refusal.proofs.PassedChecks.{length_passes, matrices_passes}
 use Rattle.pass.specs.declared.setting.Setting.{Setting}
 use Rattle.pass.specs.Pair.{Pair, pair}
 use Rattle.decomposition.specs.Checks.{all_lengths}
-use Rattle.decomposition.specs.Decomposition.{Outcome, Settlement, settlement, judged}
+use Rattle.decomposition.specs.Decomposition.{Decomposed, Outcome, Settlement, settlement, judged}
 use Rattle.decomposition.proofs.CheckedArguments.{Sizes, Right, all_right, all_lent, passed_judged}
 use Rattle.decomposition.proofs.Count.{accepted_count}
 use Rattle.decomposition.proofs.Shape.{accepted_finite, accepted_q_finite, accepted_shape}
@@ -90,14 +90,15 @@ module _ (r : Request) (m t q : List ℕ) (through : matrix_checks r m (length t
       (told ∙ ap decomposed_number e, count_small r.budget right.bound (accepted_count lengths asked a p w lent r.budget e).1)
 
   -- and such a number is an acceptance
-  pub accepted_bytes : {answer : ℕ} {t' q' : List ℕ} → MatricesDone r m q answer t' q' → answer < 0x1_0000_0000 → AcceptedBytes r m answer t' q'
+  pub accepted_bytes : {d : Decomposed} {t' q' : List ℕ} → MatricesDone r m q d t' q' → decomposed_number d < 0x1_0000_0000
+      → AcceptedBytes r m (decomposed_number d) t' q'
   unfolding ran_bytes written_matrices
-  accepted_bytes {answer} d l =
-      let told : answer ≡ decomposed_number (ran_floats r m).answer = ap (λ (x : Matrices). x.answer) d.bytes in
+  accepted_bytes {d} run l =
+      let told : decomposed_number d ≡ decomposed_number (ran_floats r m).answer = ap (λ (x : Matrices). x.answer) run.bytes in
       let came = ap (λ (s : Settlement). s.answer) library_ran in
-      let e : (library_of r m).answer ≡ Ok answer = came ∙ accepted_number _ (omega (arith, told)) ∙ ap Ok (sym told) in
+      let e : (library_of r m).answer ≡ Ok (decomposed_number d) = came ∙ accepted_number _ (omega (arith, told)) ∙ ap Ok (sym told) in
       let count = accepted_count lengths asked a p w lent r.budget e in
-      let in_t = ap (λ (s : Settlement). s.pair.t) library_ran ∙ sym d.held_t in
+      let in_t = ap (λ (s : Settlement). s.pair.t) library_ran ∙ sym run.held_t in
       record {
         accepted = e;
         counted = count.0;
@@ -105,6 +106,6 @@ module _ (r : Request) (m t q : List ℕ) (through : matrix_checks r m (length t
         t_finite = subst (AllFinite n) in_t (accepted_finite lengths asked r.budget a p w lent e);
         t_shape = subst (QuasiTriangular n) in_t (accepted_shape lengths asked r.budget a p w lent e);
         q_finite = λ k.
-            subst (AllFinite n) (ap (λ (s : Settlement). s.pair.q) library_ran ∙ sym (d.held_q k))
+            subst (AllFinite n) (ap (λ (s : Settlement). s.pair.q) library_ran ∙ sym (run.held_q k))
             (accepted_q_finite lengths asked r.budget a p w lent k e (zeros-length (n * n)));
       }

@@ -48,24 +48,24 @@ plain_sized n some order square list second =
 -- ---- what was evaluated is what is written
 
 -- the floats of the bytes in the matrix's place
-pub list_read : (e : ListEntry) (n : ℕ) (m re im re' im' : List ℕ) (x x' y y' : List Float) (c : Checked) (answer : ℕ)
+pub list_read : (e : ListEntry) (n : ℕ) (m re im re' im' : List ℕ) (x x' y y' : List Float) (c : Checked)
     → list_checks e n m (length re) (length im) ≡ passed → length x ≡ n → y ≡ zeros (second_size e n)
-    → evaluated c x' y' ≡ evaluated_by e n (floats_of m) x y → re' ≡ if_passed c (bytes_of x') re → im' ≡ second_written e c y' im → answer ≡ checked_number c
-    → complex_listed answer re' im' ≡ lists_bytes e n m re im
+    → evaluated c x' y' ≡ evaluated_by e n (floats_of m) x y → re' ≡ if_passed c (bytes_of x') re → im' ≡ second_written e c y' im
+    → complex_listed (checked_number c) re' im' ≡ lists_bytes e n m re im
 unfolding lists_bytes real_bytes complex_bytes plain_bytes plain_from real_read complex_read plain_finite_of plain_begun left_by list_lengths
     checked_number if_passed list_checks
-list_read Real n m re im re' im' x x' y y' c answer passed list zero run left_re left_im told =
+list_read Real n m re im re' im' x x' y y' c passed list zero run left_re left_im =
     let f = list_fit Real n m (length re) (length im) passed in
     let size = real_sized n (floats_length m (n * n) f.matrix) list in
     let whole = run ∙ ap (λ r. evaluated r.answer r.values y) (real_finite n (floats_of m) x (list_entries Real n m (length re) (length im) passed)) in
-    rw (told, left_re, left_im, ap (λ r. r.x) whole, ap (λ r. r.answer) whole, size, f.lent, written)
-list_read Complex n m re im re' im' x x' y y' c answer passed list zero run left_re left_im told =
+    rw (left_re, left_im, ap (λ r. r.x) whole, ap (λ r. r.answer) whole, size, f.lent, written)
+list_read Complex n m re im re' im' x x' y y' c passed list zero run left_re left_im =
     let f = list_fit Complex n m (length re) (length im) passed in
     let size = complex_sized n (floats_length m (n * n) f.matrix) list (ap length zero ∙ zeros-length n) in
     let whole =
     run ∙ ap (λ r. evaluated r.answer r.re r.im) (complex_finite n (floats_of m) x y (list_entries Complex n m (length re) (length im) passed)) in
-    rw (told, left_re, left_im, ap (λ r. r.x) whole, ap (λ r. r.y) whole, ap (λ r. r.answer) whole, size, f.lent) (simp written)
-list_read Plain n m re im re' im' x x' y y' c answer passed list zero run left_re left_im told =
+    rw (left_re, left_im, ap (λ r. r.x) whole, ap (λ r. r.y) whole, ap (λ r. r.answer) whole, size, f.lent) (simp written)
+list_read Plain n m re im re' im' x x' y y' c passed list zero run left_re left_im =
     let f = list_fit Plain n m (length re) (length im) passed in
     let size = plain_sized n f.some f.order (floats_length m (n * n) f.matrix) list (ap length zero ∙ zeros-length (2 * n)) in
-    rw (told, left_re, left_im, ap (λ r. r.x) run, ap (λ r. r.answer) run, size, passed, zero, written)
+    rw (left_re, left_im, ap (λ r. r.x) run, ap (λ r. r.answer) run, size, passed, zero, written)

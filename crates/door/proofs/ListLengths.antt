@@ -1,6 +1,6 @@
 -- Where the first checks of an entry that gives lists have passed: the lengths. Where one has not: the same is answered by all its checks. Assumes nothing.
 use Rattle.std.specs.Prelude.{Err}
-use Rattle.refusal.specs.Refusal.{passed}
+use Rattle.refusal.specs.Refusal.{Checked, passed}
 use Prim.Native.Nat.{ℕ, ◌*◌, ◌≤◌}
 use native.Mathlib.Omega.{arith}
 use mathlib.Core.Path.{◌≡◌, refl, sym, ap, ◌∙◌}
@@ -19,7 +19,7 @@ use Rattle.words.specs.Floats.{floats_of}
 use Rattle.words.proofs.Between.{fresh_zeros, fresh_length}
 use Rattle.door.specs.Lists.{ListEntry, Real, Complex, Plain}
 use Rattle.door.specs.Inner.{ListRoomy, ListRooms, second_size}
-use Rattle.answer.specs.Answer.{refusal_number, checked_number}
+use Rattle.answer.specs.Answer.{checked_number}
 use Rattle.door.specs.Lists.{second_length, list_lengths, list_checks, complex_listed, real_bytes, complex_bytes, plain_from, plain_bytes, lists_bytes}
 
 -- ---- in turn
@@ -81,10 +81,9 @@ fresh_rooms {square} {side} {double} f e room = record {
 
 -- ---- refused: all that is lent is as it was
 
-pub kept : {r : Refusal} (e : ListEntry) (n : ℕ) (m re im : List ℕ) (answer : ℕ) → list_checks e n m (length re) (length im) ≡ Err r
-    → answer ≡ refusal_number r
-    → complex_listed answer re im ≡ lists_bytes e n m re im
+pub kept : {r : Refusal} (e : ListEntry) (n : ℕ) (m re im : List ℕ) (c : Checked) → list_checks e n m (length re) (length im) ≡ Err r → c ≡ Err r
+    → complex_listed (checked_number c) re im ≡ lists_bytes e n m re im
 unfolding lists_bytes list_checks list_lengths real_bytes real_checks complex_bytes complex_checks readable plain_bytes plain_from if_passed checked_number
-kept Real n m re im answer refused told = rw (told, next_refused _ _ (next_refused _ _ refused))
-kept Complex n m re im answer refused told = rw (told, next_refused _ _ (next_refused _ _ refused))
-kept Plain n m re im answer refused told = rw (told, refused)
+kept Real n m re im c refused told = rw (told, next_refused _ _ (next_refused _ _ refused)) refl
+kept Complex n m re im c refused told = rw (told, next_refused _ _ (next_refused _ _ refused)) refl
+kept Plain n m re im c refused told = rw (told, refused) refl

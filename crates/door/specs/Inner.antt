@@ -4,6 +4,8 @@ use Rattle.refusal.specs.Refusal.{Checked, passed}
 use Rattle.std.specs.Prelude.{ℕ, ◌*◌, ◌^◌, ◌<◌, ◌≤◌, true, ◌≡◌, List, length, Float}
 use Rattle.matrix.specs.Vectors.{zeros}
 use Rattle.refusal.specs.Refusal.{if_passed}
+use Rattle.decomposition.specs.Decomposition.{Decomposed}
+use Rattle.answer.specs.Answer.{decomposed_number}
 use Rattle.eigenvalues.specs.Readers.{real_finite_of, complex_finite_of}
 use Rattle.plain.specs.Plain.{plain_finite_of}
 use Rattle.words.specs.Floats.{floats_of, bytes_of}
@@ -34,8 +36,8 @@ pub record MatrixRooms (r : Request) (m t q : List ℕ) (a c w : List Float) : T
 
 -- What is answered and written after the run; and the bytes hold T's floats, and Q's where it is wanted. No law says
 -- that of every number that the logic has, so each function says it of what it wrote.
-pub record MatricesDone (r : Request) (m q : List ℕ) (answer : ℕ) (t' q' : List ℕ) : Type 0 where
-  pub bytes : matrices answer t' q' ≡ ran_bytes r m q
+pub record MatricesDone (r : Request) (m q : List ℕ) (answer : Decomposed) (t' q' : List ℕ) : Type 0 where
+  pub bytes : matrices (decomposed_number answer) t' q' ≡ ran_bytes r m q
   pub held_t : floats_of t' ≡ (ran_floats r m).pair.t
   pub held_q : r.wanted ≡ true → floats_of q' ≡ (ran_floats r m).pair.q
 

@@ -5,13 +5,12 @@ ghost use Rattle.words.specs.Floats.{floats_of};
 
 use refusal::Refusal;
 
-// An entry is NaN or infinite: 6.
+// An entry is NaN or infinite: 6. This is `refusal::check_entries` on bytes: `refusal` cannot name `words`.
 #[tactic(auto, using(refusal::proofs::ChecksInTurn::in_turn), unfolding(refusal::specs::Checks::entry_checks))]
 pub(crate) fn check_entries(m: &[u8], n: usize) -> Result<(), Refusal>
     ensures { result ≡ entry_checks n (floats_of m.now) }
 {
-    match words::first_not_finite(m, n) {
-        Some(p) => Err(Refusal::EntryNotFinite(p)),
-        None => Ok(()),
-    }
+    words::first_not_finite(m, n)
+        .map(Refusal::EntryNotFinite)
+        .map_or(Ok(()), Err)
 }

@@ -14,10 +14,9 @@ ghost use Rattle.scalar.specs.Root.{root_bits};
 ghost use Rattle.door.specs.Matrices.{request, matrices, decompose_bytes, AcceptedBytes};
 ghost use Rattle.door.specs.Lists.{listed, real_bytes, complex_listed, complex_bytes, plain_bytes};
 
-use answer::refusal_number;
+use answer::{checked_number, decomposed_number};
 use lists::{ComplexReader, PlainEntry, RealReader};
 use matrices::Request;
-use refusal::Refusal;
 
 // The square root, from pattern to pattern. Every NaN pattern gives 7FF8000000000000, and so does
 // every number below 0.
@@ -53,10 +52,7 @@ pub extern "C" fn manulsek_decompose(
         tolerance,
         budget,
     };
-    match matrices::check_arguments(m, request, t.len(), q.len()) {
-        Err(r) => refusal_number(r),
-        Ok(()) => matrices::run(request, m, t, q),
-    }
+    decomposed_number(matrices::call(request, m, t, q))
 }
 
 // The eigenvalues of a T, if all are real: 0, or a refusal.
@@ -64,7 +60,7 @@ pub extern "C" fn manulsek_decompose(
 pub extern "C" fn manulsek_eigenvalues(n: usize, t: &[u8], values: &mut [u8]) -> u64
     ensures { listed result values.new ≡ real_bytes n t.now values.old }
 {
-    lists::call::<RealReader>(n, t, values, &mut [])
+    checked_number(lists::call::<RealReader>(n, t, values, &mut []))
 }
 
 // The eigenvalues of a T, by their real and imaginary parts: 0, or a refusal.
@@ -78,7 +74,7 @@ pub extern "C" fn manulsek_complex_eigenvalues(
     ensures { complex_listed result re.new im.new
         ≡ complex_bytes n t.now re.old im.old }
 {
-    lists::call::<ComplexReader>(n, t, re, im)
+    checked_number(lists::call::<ComplexReader>(n, t, re, im))
 }
 
 // The eigenvalues of a matrix, if all are real, with the tolerance 2^-52 and the budget 10,000: 0, or a
@@ -87,5 +83,5 @@ pub extern "C" fn manulsek_complex_eigenvalues(
 pub extern "C" fn manulsek_plain_eigenvalues(n: usize, m: &[u8], values: &mut [u8]) -> u64
     ensures { listed result values.new ≡ plain_bytes n m.now values.old }
 {
-    lists::call::<PlainEntry>(n, m, values, &mut [])
+    checked_number(lists::call::<PlainEntry>(n, m, values, &mut []))
 }

@@ -3,12 +3,12 @@
 ghost use Rattle.std.specs.Prelude.{◌≡◌, ◌*◌, ◌≤◌, length};
 ghost use Rattle.refusal.specs.Refusal.{passed, if_passed};
 ghost use Rattle.words.specs.Floats.{bytes_of};
+ghost use Rattle.answer.specs.Answer.{checked_number};
 ghost use Rattle.door.specs.Lists.{ListEntry, Real, Complex, Plain};
 ghost use Rattle.door.specs.Lists.{second_length, list_lengths, list_checks, complex_listed, lists_bytes};
 ghost use Rattle.door.specs.Inner.{ListRoomy, ListRooms, second_size, evaluated, evaluated_by, second_written};
 
 use crate::checks::check_entries;
-use answer::{checked_number, refusal_number};
 use refusal::Refusal;
 
 // What an entry has of its own. Beside its matrix and its list it needs numbers: imaginary parts, or a workspace.
@@ -139,16 +139,16 @@ fn on_floats<L: List>(
     a: &mut [f64],
     x: &mut [f64],
     y: &mut [f64],
-) -> u64
+) -> Result<(), Refusal>
     requires { ListRooms L.entry n m.now re.old im.old a.old x.old y.old }
-    ensures { complex_listed result re.new im.new
+    ensures { complex_listed (checked_number result) re.new im.new
         ≡ lists_bytes L.entry n m.now re.old im.old }
 {
     words::decode(m, a);
     let checked = L::evaluate(n, a, x, y);
     write_list(checked, x, re);
     L::write_second(checked, y, im);
-    checked_number(checked)
+    checked
 }
 
 // The floats' rooms: SQUARE numbers for T or the matrix, SIDE for the list, DOUBLE beside it. Each size is kept apart,
@@ -160,9 +160,9 @@ fn in_rooms<L: List, const SQUARE: usize, const SIDE: usize, const DOUBLE: usize
     m: &[u8],
     re: &mut [u8],
     im: &mut [u8],
-) -> u64
+) -> Result<(), Refusal>
     requires { ListRoomy SQUARE SIDE DOUBLE L.entry n m.now re.old im.old }
-    ensures { complex_listed result re.new im.new
+    ensures { complex_listed (checked_number result) re.new im.new
         ≡ lists_bytes L.entry n m.now re.old im.old }
 {
     let k = n * n;
@@ -174,9 +174,9 @@ fn in_rooms<L: List, const SQUARE: usize, const SIDE: usize, const DOUBLE: usize
 }
 
 // The first checks have passed. Small orders do not pay for clearing a large room.
-fn run<L: List>(n: usize, m: &[u8], re: &mut [u8], im: &mut [u8]) -> u64
+fn run<L: List>(n: usize, m: &[u8], re: &mut [u8], im: &mut [u8]) -> Result<(), Refusal>
     requires { list_checks L.entry n m.now (length re.old) (length im.old) ≡ passed }
-    ensures { complex_listed result re.new im.new
+    ensures { complex_listed (checked_number result) re.new im.new
         ≡ lists_bytes L.entry n m.now re.old im.old }
 {
     if n <= 8 {
@@ -188,13 +188,11 @@ fn run<L: List>(n: usize, m: &[u8], re: &mut [u8], im: &mut [u8]) -> u64
     in_rooms::<L, 4096, 64, 128>(n, m, re, im)
 }
 
-// Any call: 0, or a refusal.
-pub(crate) fn call<L: List>(n: usize, m: &[u8], re: &mut [u8], im: &mut [u8]) -> u64
-    ensures { complex_listed result re.new im.new
+// All of a call: the first checks, then the rest of it.
+pub(crate) fn call<L: List>(n: usize, m: &[u8], re: &mut [u8], im: &mut [u8]) -> Result<(), Refusal>
+    ensures { complex_listed (checked_number result) re.new im.new
         ≡ lists_bytes L.entry n m.now re.old im.old }
 {
-    match check_arguments::<L>(n, m, re.len(), im.len()) {
-        Err(r) => refusal_number(r),
-        Ok(()) => run::<L>(n, m, re, im),
-    }
+    check_arguments::<L>(n, m, re.len(), im.len())?;
+    run::<L>(n, m, re, im)
 }

@@ -1,6 +1,6 @@
 // The entries that give matrices, over bytes: checks, the floats, the run, and the bytes of T and Q. Their rooms
 // are arrays of four sizes, since the language has no array whose length is known at run time only.
-ghost use Rattle.std.specs.Prelude.{◌≡◌, true, cond, not, ◌*◌, length};
+ghost use Rattle.std.specs.Prelude.{◌≡◌, true, cond, not, ◌*◌, ◌<◌, length};
 ghost use Rattle.std.specs.Float.{binary64};
 ghost use Rattle.std.specs.Float.Ieee.{of_bits};
 ghost use Rattle.refusal.specs.declared.refusal.Refusal.TheVariants.{ToleranceOutside, BudgetOutside};
@@ -8,11 +8,11 @@ ghost use Rattle.refusal.specs.Refusal.{passed, refuse, ◌next◌};
 ghost use Rattle.refusal.specs.Checks.{entry_checks};
 ghost use Rattle.decomposition.specs.Checks.{tolerance_fits, budget_fits};
 ghost use Rattle.words.specs.Floats.{floats_of, bytes_of};
-ghost use Rattle.door.specs.Matrices.{asked_by, matrix_checks};
+ghost use Rattle.answer.specs.Answer.{decomposed_number};
+ghost use Rattle.door.specs.Matrices.{asked_by, matrix_checks, matrices, decompose_bytes, AcceptedBytes};
 ghost use Rattle.door.specs.Inner.{MatrixRoomy, MatrixRooms, MatricesDone};
 
 use crate::checks::check_entries;
-use answer::decomposed_number;
 use pass::Setting;
 use refusal::Refusal;
 
@@ -67,7 +67,7 @@ fn check_values(m: &[u8], r: Request) -> Result<(), Refusal>
 
 // The arguments, in the order of document 01's table; tn and qn are the lengths of what is lent, in bytes.
 #[tactic(auto, using(crate::proofs::MatrixLengths::matrix_in_turn))]
-pub(crate) fn check_arguments(m: &[u8], r: Request, tn: usize, qn: usize) -> Result<(), Refusal>
+fn check_arguments(m: &[u8], r: Request, tn: usize, qn: usize) -> Result<(), Refusal>
     ensures { result ≡ matrix_checks r m.now tn qn }
 {
     refusal::check_order(r.order)?;
@@ -96,7 +96,7 @@ fn on_floats(
     a: &mut [f64],
     c: &mut [f64],
     work: &mut [f64],
-) -> u64
+) -> Result<u64, Refusal>
     requires { MatrixRooms r m.now t.old q.old a.old c.old work.old }
     ensures { MatricesDone r m.now q.old result t.new q.new }
 {
@@ -106,7 +106,7 @@ fn on_floats(
     let answer = decomposition::decide(ran, a, c, asked);
     words::encode(a, t);
     write_q(r.wanted, c, q);
-    decomposed_number(answer)
+    answer
 }
 
 // The floats' rooms: ROOM numbers for T and for Q each, WORK for the workspace. Each size is kept apart, in a frame of
@@ -118,7 +118,7 @@ fn in_rooms<const ROOM: usize, const WORK: usize>(
     m: &[u8],
     t: &mut [u8],
     q: &mut [u8],
-) -> u64
+) -> Result<u64, Refusal>
     requires { MatrixRoomy ROOM WORK r m.now t.old q.old }
     ensures { MatricesDone r m.now q.old result t.new q.new }
 {
@@ -131,7 +131,7 @@ fn in_rooms<const ROOM: usize, const WORK: usize>(
 }
 
 // The arguments have passed. Small orders do not pay for clearing a large room.
-pub(crate) fn run(r: Request, m: &[u8], t: &mut [u8], q: &mut [u8]) -> u64
+fn run(r: Request, m: &[u8], t: &mut [u8], q: &mut [u8]) -> Result<u64, Refusal>
     requires { matrix_checks r m.now (length t.old) (length q.old) ≡ passed }
     ensures { MatricesDone r m.now q.old result t.new q.new }
 {
@@ -147,4 +147,14 @@ pub(crate) fn run(r: Request, m: &[u8], t: &mut [u8], q: &mut [u8]) -> u64
         return in_rooms::<1096, 64>(r, m, t, q);
     }
     in_rooms::<4168, 128>(r, m, t, q)
+}
+
+// All of a call: the checks of the arguments, then the run. The counted passes are answered, or a refusal.
+pub(crate) fn call(r: Request, m: &[u8], t: &mut [u8], q: &mut [u8]) -> Result<u64, Refusal>
+    ensures q_after { matrices (decomposed_number result) t.new q.new ≡ decompose_bytes r m.now t.old q.old }
+    ensures accepted_bytes { decomposed_number result < 0x1_0000_0000 → AcceptedBytes r
+        m.now (decomposed_number result) t.new q.new }
+{
+    check_arguments(m, r, t.len(), q.len())?;
+    run(r, m, t, q)
 }

@@ -4,4 +4,4 @@ use Rattle.door.proofs.manulsek_complex_eigenvalues.Goals as goal
 
 pub returns : goal.returns
 unfolding lists_bytes
-returns c = c.call.ensures
+returns c = rw c.checked_number.ensures c.call.ensures

@@ -5,4 +5,4 @@ use Rattle.door.proofs.manulsek_plain_eigenvalues.Goals as goal
 
 pub returns : goal.returns
 unfolding lists_bytes
-returns c = ap (λ x. listed x.answer x.re) c.call.ensures
+returns c = rw c.checked_number.ensures (ap (λ x. listed x.answer x.re) c.call.ensures)

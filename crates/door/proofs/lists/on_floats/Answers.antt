@@ -35,6 +35,6 @@ returns g c =
     let pre = c.requires in
     let fit = list_fit _ _ x.m.now _ _ pre.passed in
     let floats = decoded x.m.now x.a.now _ fit.matrix pre.matrix c.decode.ensures in
-    list_read _ x.n x.m.now x.re.now x.im.now _ _ x.x.now _ x.y.now _ _ _ pre.passed pre.list pre.second
+    list_read _ x.n x.m.now x.re.now x.im.now _ _ x.x.now _ x.y.now _ _ pre.passed pre.list pre.second
     (c.evaluate-checked.ensures ∙ ap (λ a. evaluated_by _ x.n a x.x.now x.y.now) floats)
-    c.write_list.ensures c.write_second.ensures c.checked_number.ensures
+    c.write_list.ensures c.write_second.ensures

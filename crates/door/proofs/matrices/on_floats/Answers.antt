@@ -24,10 +24,10 @@ returns c =
     let x = c.args in
     let pre = c.requires in
     let floats = decoded x.m.now x.a.now _ (fit (goal.at.returns c).Start).matrix pre.matrix c.decode.ensures in
-    ran x.r x.m.now _ _ x.c.now x.work.now c.do_decompose-ran.result (pair _ _) (settlement _ _) _ _ x.q.now _
+    ran x.r x.m.now _ _ x.c.now x.work.now c.do_decompose-ran.result (pair _ _) (settlement _ _) _ x.q.now _
     c.from-asked.ensures floats pre.for_q pre.workspace
     (run_fits_lem (fit (goal.at.returns c).Start)
     (ap length floats ∙ floats_length x.m.now _ (fit (goal.at.returns c).Start).matrix) (ap length pre.workspace ∙ zeros-length _))
-    c.do_decompose-ran.ensures.q_after c.decide-answer.ensures c.decomposed_number.ensures
+    c.do_decompose-ran.ensures.q_after c.decide-answer.ensures
     (encoded _ x.t.now c.encode.ensures.b_after (omega (arith, (fit (goal.at.returns c).Start).t)))
     c.write_q.ensures.q_after (c.encode.ensures.read_back (omega (arith, (fit (goal.at.returns c).Start).t))) c.write_q.ensures.q_read_back
