@@ -49,7 +49,7 @@ pub record Measured (sum : Order) (c : List Float) (x f : Float) : Type 0 where
   pub norm : x ≡ signed_norm sum c
   pub factor : f ≡ factor_of sum c
 
--- as the routine `measure` tells them, from the sum of the squares and the first number
+-- as the routine `shift` makes them, of the sum of the squares and the first number
 pub measured : (sum : Order) (c : List Float) (sq x f : Float) → length c ≢ 0 → sq ≡ norm_squared sum c
     → (x ≡ (to_exp_of (c ! 0)).sign ⊗ root_of sq) × (f ≡ (sq ⊕ (to_exp_of (c ! 0)).magnitude ⊗ root_of sq) ⊗ two) → Measured sum c x f
 unfolding signed_norm factor_of norm_of

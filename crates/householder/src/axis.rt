@@ -1,10 +1,8 @@
 // The axis of the reflection that takes a column to a multiple of the first unit vector.
-ghost use Rattle.std.specs.Prelude.{◌≡◌};
-ghost use Rattle.loops.specs.Constants.{two};
-ghost use Rattle.loops.specs.Rounded.{◌⊕◌, ◌⊗◌};
+ghost use Rattle.std.specs.Prelude.{◌≡◌, cond};
 ghost use Rattle.scalar.specs.Root.{root_of};
-ghost use Rattle.scalar.specs.Sign.{to_exp_of};
-ghost use Rattle.matrix.specs.Sum.{bare, lanes};
+ghost use Rattle.matrix.specs.Sum.{Order, bare, lanes};
+ghost use Rattle.matrix.specs.Vectors.{norm_squared, unscaled, normalized};
 ghost use Rattle.householder.specs.Axis.{axis_answer, axis_of};
 
 use matrix::Vector;
@@ -18,24 +16,42 @@ pub struct Axis {
     pub reflected: bool,
 }
 
-// The norm with the sign of the column's first number, and the factor: the square of the norm that the
-// column has once that is added to its first number.
+// A column with the norm added to its first number: what is answered of it, and the square of the norm that it has.
 #[derive(Clone, Copy)]
-struct Measured {
-    norm: f64,
+struct Shifted {
+    axis: Axis,
     factor: f64,
 }
 
-// By the sum of the column's squares and its first number.
-fn measure(squares: f64, first: f64) -> Measured
-    ensures { (result.norm ≡ (to_exp_of first).sign ⊗ root_of squares)
-        × (result.factor ≡ (squares ⊕ (to_exp_of first).magnitude ⊗ root_of squares) ⊗ two) }
+// By the sum of the column's squares, in any order of summing. Where there is a reflection, the column is still to be
+// divided by the root of the factor and normalized, for which slices and vectors have functions of their own: a trait
+// of these would be longer than the two bodies below.
+fn shift(column: &mut [f64], squares: f64) -> Shifted
+    ensures { (sum : Order) → squares ≡ norm_squared sum column.old → axis_answer
+        (cond result.axis.reflected (normalized sum (unscaled (root_of result.factor) column.new)) column.new)
+        result.axis.norm result.axis.reflected ≡ axis_of sum column.old }
 {
-    let norm = scalar::sqrt(squares);
-    let exp = scalar::to_exp(first);
-    Measured {
-        norm: exp.sign * norm,
-        factor: (squares + exp.magnitude * norm) * 2.0,
+    if column.len() == 0 {
+        return Shifted {
+            axis: Axis {
+                norm: 0.0,
+                reflected: false,
+            },
+            factor: 0.0,
+        };
+    }
+    let root = scalar::sqrt(squares);
+    let exp = scalar::to_exp(column[0]);
+    let norm = exp.sign * root;
+    let factor = (squares + exp.magnitude * root) * 2.0;
+    column[0] += norm;
+    let reflected = !scalar::is_zero(factor);
+    Shifted {
+        axis: Axis {
+            norm: if reflected { -norm } else { norm },
+            reflected,
+        },
+        factor,
     }
 }
 
@@ -43,55 +59,25 @@ fn measure(squares: f64, first: f64) -> Measured
 pub fn reflection_axis_mut(column: &mut [f64]) -> Axis
     ensures { axis_answer column.new result.norm result.reflected ≡ axis_of lanes column.old }
 {
-    if column.len() == 0 {
-        return Axis {
-            norm: 0.0,
-            reflected: false,
-        };
-    }
     let sq_norm = matrix::norm_squared(column);
-    let first = column[0];
-    let m = measure(sq_norm, first);
-    column[0] = first + m.norm;
-    if scalar::is_zero(m.factor) {
-        return Axis {
-            norm: m.norm,
-            reflected: false,
-        };
+    let s = shift(column, sq_norm);
+    if s.axis.reflected {
+        let root = scalar::sqrt(s.factor);
+        matrix::unscale_mut(column, root);
+        // Once more: after a small factor the axis may be some way from length 1.
+        matrix::normalize_mut(column);
     }
-    let root = scalar::sqrt(m.factor);
-    matrix::unscale_mut(column, root);
-    // Once more: after a small factor the axis may be some way from length 1.
-    matrix::normalize_mut(column);
-    Axis {
-        norm: -m.norm,
-        reflected: true,
-    }
+    s.axis
 }
 
 // The same for a vector, whose sums have no leading zero but the norm's.
 pub fn reflection_axis_of_vector<const N: usize>(column: &mut Vector<N>) -> Axis
     ensures { axis_answer column.new.0 result.norm result.reflected ≡ axis_of bare column.old.0 }
 {
-    let numbers: &[f64] = &column.0;
-    if numbers.len() == 0 {
-        return Axis {
-            norm: 0.0,
-            reflected: false,
-        };
+    let squares = column.norm_squared();
+    let s = shift(&mut column.0, squares);
+    if s.axis.reflected {
+        *column = column.unscale(scalar::sqrt(s.factor)).normalize();
     }
-    let first = column.0[0];
-    let m = measure(column.norm_squared(), first);
-    column.0[0] = first + m.norm;
-    if scalar::is_zero(m.factor) {
-        return Axis {
-            norm: m.norm,
-            reflected: false,
-        };
-    }
-    *column = column.unscale(scalar::sqrt(m.factor)).normalize();
-    Axis {
-        norm: -m.norm,
-        reflected: true,
-    }
+    s.axis
 }
