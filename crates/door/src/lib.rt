@@ -65,6 +65,7 @@ pub extern "C" fn manulsek_eigenvalues(n: usize, t: &[u8], values: &mut [u8]) ->
 
 // The eigenvalues of a T, by their real and imaginary parts: 0, or a refusal.
 #[unsafe(no_mangle)]
+#[tactic(auto, unfolding(crate::specs::Lists::lists_bytes))]
 pub extern "C" fn manulsek_complex_eigenvalues(
     n: usize,
     t: &[u8],

@@ -189,6 +189,7 @@ fn run<L: List>(n: usize, m: &[u8], re: &mut [u8], im: &mut [u8]) -> Result<(), 
 }
 
 // All of a call: the first checks, then the rest of it.
+#[tactic(auto, using(crate::proofs::ListLengths::kept))]
 pub(crate) fn call<L: List>(n: usize, m: &[u8], re: &mut [u8], im: &mut [u8]) -> Result<(), Refusal>
     ensures { complex_listed (checked_number result) re.new im.new
         ≡ lists_bytes L.entry n m.now re.old im.old }

@@ -68,7 +68,7 @@ fn read<'a, R: Read>(
 pub(crate) fn replay(rt: &impl Print, source: &mut impl Read) {
     let mut room = [0; ROOM];
     let mut slots = Slots::new();
-    let mut report = Report::default();
+    let mut report = Report::new();
     for _ in 0..MOST {
         let Some(head) = Head::read(source) else {
             break;

@@ -26,7 +26,7 @@ impl fmt::Display for Tally {
     }
 }
 
-#[derive(Clone, Copy, Default)]
+#[derive(Clone, Copy)]
 pub(crate) struct Report {
     all: Tally,
     // of the group, once one has begun
@@ -35,6 +35,14 @@ pub(crate) struct Report {
 }
 
 impl Report {
+    pub(crate) fn new() -> Report {
+        Report {
+            all: Tally::default(),
+            group: None,
+            met: Met::new(),
+        }
+    }
+
     fn count(&mut self, same: bool) {
         self.all.count(same);
         if let Some(group) = &mut self.group {
