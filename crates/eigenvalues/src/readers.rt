@@ -25,6 +25,7 @@ fn any_paired(t: &[f64], n: usize) -> bool
 }
 
 // The diagonal, bit for bit.
+#[tactic(auto, unfolding(loops::specs::Table::table, crate::specs::Readers::diagonal))]
 fn do_eigenvalues(t: &[f64], n: usize, values: &mut [f64])
     requires { Square n (length t.now) × (length values.old ≡ n) }
     ensures { values.new ≡ diagonal n t.now }
@@ -134,7 +135,7 @@ fn do_complex_eigenvalues(t: &[f64], n: usize, re: &mut [f64], im: &mut [f64])
     ensures im_after { im.new ≡ table n (λ k. (eigenvalue_at n t.now k).im) }
 {
     let mut before = BlockAnswer::One(0.0);
-    // By index, since each step writes into two lists: of what `zip` of two `iter_mut` writes a proof is told nothing.
+    // By index, since each step writes into two lists: over a `zip` of two `iter_mut` an invariant can name neither.
     for k in 0..n {
         let here = answer_at(t, n, k);
         let e = here.eigenvalue(before);
