@@ -1,7 +1,7 @@
 -- The readers' definitions as the code makes its checks, one behind those that have come to one; `made` names them for the check. Assumes nothing.
 use Rattle.std.specs.Prelude.{Err, Ok}
 use Prim.Native.Nat.{ℕ, ◌*◌}
-use mathlib.Core.Path.{◌≡◌, refl, ap}
+use mathlib.Core.Path.{◌≡◌, refl}
 use mathlib.Core.List.{List}
 use lib.ListN.{length}
 use lib.Ieee.{Float}
@@ -9,13 +9,14 @@ use Rattle.refusal.specs.declared.refusal.Refusal.{Refusal}
 use Rattle.refusal.specs.declared.refusal.Refusal.TheVariants.{WrongLength, ResultNotFinite, ShapeSpoiled, ComplexEigenvalues, BlockNotComplex}
 use Rattle.refusal.specs.Refusal.{Checked, refuse, refuse_at, ◌next◌, if_passed}
 use Rattle.refusal.specs.Search.{first_on_diagonal, first_spoiling}
-use Rattle.refusal.specs.Checks.{order_checks, length_check, given_checks}
-use Rattle.refusal.proofs.ChecksInTurn.{next_back, in_turn}
+use Rattle.refusal.specs.Checks.{order_checks, length_check, entry_checks, given_checks}
+use Rattle.refusal.proofs.ChecksInTurn.{in_turn}
 use Rattle.eigenvalues.specs.Blocks.{not_complex}
 use Rattle.eigenvalues.specs.Readers.{shape_check, readable, finite_readable, any_paired, pair_check, real_checks, read, left_by, diagonal_by, real_lengths}
 use Rattle.eigenvalues.specs.Readers.{real_read, real_finite_of, diagonal_if_real, not_finite_at, block_checks, complex_checks, eigenvalues_by, complex_lengths}
 use Rattle.eigenvalues.specs.Readers.{complex_read, complex_finite_of}
 use Rattle.eigenvalues.proofs.Real.{real_held}
+use Rattle.eigenvalues.proofs.ReaderChecks.{order_ready, real_ready, complex_ready}
 
 -- ---- what is left of a list
 
@@ -46,47 +47,40 @@ module _ (n : ℕ) (t : List Float) where
   -- ---- the real reader
 
   module _ (values : List Float) where
-    abbrev list : Checked
-    list = length_check WrongLength (length values) n
-
     abbrev sizes : Checked
-    sizes = order_checks n next length_check WrongLength (length t) (n * n) next list
-
-    abbrev shape : Checked
-    shape = refuse_at ShapeSpoiled (first_spoiling n t)
+    sizes = length_check WrongLength (length t) (n * n) next length_check WrongLength (length values) n
 
     pub real_made : real_read n t values
-        ≡ diagonal_by ((given_checks (length_check WrongLength (length t) (n * n) next list) n t next shape) next pair_check n t) n t values
-    unfolding real_read real_checks readable shape_check real_lengths
+        ≡ diagonal_by (((order_checks n next sizes next entry_checks n t) next refuse_at ShapeSpoiled (first_spoiling n t)) next pair_check n t) n t values
+    unfolding real_read real_checks readable given_checks shape_check real_lengths
     real_made = refl
 
-    pub real_finite_made : real_finite_of n t values ≡ diagonal_by ((sizes next shape) next pair_check n t) n t values
+    pub real_finite_made : real_finite_of n t values
+        ≡ diagonal_by ((order_checks n next sizes next refuse_at ShapeSpoiled (first_spoiling n t)) next pair_check n t) n t values
     unfolding real_finite_of finite_readable shape_check real_lengths
-    real_finite_made = ap (λ c. diagonal_by (c next pair_check n t) n t values) (next_back _ _ _)
+    real_finite_made = refl
 
-    pub diagonal_made : diagonal_if_real n t values ≡ diagonal_by (sizes next pair_check n t) n t values
+    pub diagonal_made : diagonal_if_real n t values ≡ diagonal_by (order_checks n next sizes next pair_check n t) n t values
     unfolding diagonal_if_real real_lengths
-    diagonal_made = ap (λ c. diagonal_by c n t values) (next_back _ _ _)
+    diagonal_made = refl
 
   -- ---- the complex reader
 
   module _ (re im : List Float) where
-    abbrev lists : Checked
-    lists = length_check WrongLength (length re) n next length_check WrongLength (length im) n
-
     abbrev complex_sizes : Checked
-    complex_sizes = order_checks n next length_check WrongLength (length t) (n * n) next lists
+    complex_sizes =
+        length_check WrongLength (length t) (n * n) next length_check WrongLength (length re) n next length_check WrongLength (length im) n
 
     pub complex_made : complex_read n t re im
-        ≡ eigenvalues_by ((given_checks (length_check WrongLength (length t) (n * n) next lists) n t next refuse_at ShapeSpoiled (first_spoiling n t))
-        next block_checks n t) n t re im
-    unfolding complex_read complex_checks readable shape_check complex_lengths
+        ≡ eigenvalues_by (((order_checks n next complex_sizes next entry_checks n t) next refuse_at ShapeSpoiled (first_spoiling n t)) next block_checks n t)
+        n t re im
+    unfolding complex_read complex_checks readable given_checks shape_check complex_lengths
     complex_made = refl
 
     pub complex_finite_made : complex_finite_of n t re im
-        ≡ eigenvalues_by ((complex_sizes next refuse_at ShapeSpoiled (first_spoiling n t)) next block_checks n t) n t re im
+        ≡ eigenvalues_by ((order_checks n next complex_sizes next refuse_at ShapeSpoiled (first_spoiling n t)) next block_checks n t) n t re im
     unfolding complex_finite_of finite_readable shape_check complex_lengths
-    complex_finite_made = ap (λ c. eigenvalues_by (c next block_checks n t) n t re im) (next_back _ _ _)
+    complex_finite_made = refl
 
 pub ruleset made = (
   in_turn,
@@ -101,4 +95,7 @@ pub ruleset made = (
   complex_made,
   complex_finite_made,
   real_held,
+  order_ready,
+  real_ready,
+  complex_ready,
 )

@@ -25,13 +25,13 @@ fn any_paired(t: &[f64], n: usize) -> bool
 }
 
 // The diagonal, bit for bit.
+#[tactic(auto, unfolding(loops::specs::Table::table, crate::specs::Readers::diagonal))]
 fn do_eigenvalues(t: &[f64], n: usize, values: &mut [f64])
     requires { Square n (length t.now) × (length values.old ≡ n) }
     ensures { values.new ≡ diagonal n t.now }
 {
-    // By index: of what an adapter of `iter_mut` writes a proof is told nothing.
-    for k in 0..n {
-        values[k] = matrix::entry(t, n, k, k);
+    for (k, value) in values.iter_mut().enumerate() {
+        *value = matrix::entry(t, n, k, k);
     }
 }
 
@@ -55,8 +55,10 @@ pub fn eigenvalues(t: &[f64], n: usize, values: &mut [f64]) -> Result<(), Refusa
     ensures values_after { read result values.new ≡ real_read n t.now values.old }
     ensures real_answer { RealAnswer n t.now values.old result values.new }
 {
-    let list = refusal::check_length(values.len(), n, Refusal::WrongLength);
-    refusal::check_given(t, n, list)?;
+    refusal::check_order(n)?;
+    refusal::check_length(t.len(), n * n, Refusal::WrongLength)?;
+    refusal::check_length(values.len(), n, Refusal::WrongLength)?;
+    refusal::check_entries(t, n)?;
     refusal::check_shape(t, n)?;
     diagonal_of(t, n, values)
 }
@@ -66,8 +68,9 @@ pub fn eigenvalues(t: &[f64], n: usize, values: &mut [f64]) -> Result<(), Refusa
 pub fn eigenvalues_of_finite(t: &[f64], n: usize, values: &mut [f64]) -> Result<(), Refusal>
     ensures { read result values.new ≡ real_finite_of n t.now values.old }
 {
-    let list = refusal::check_length(values.len(), n, Refusal::WrongLength);
-    refusal::check_sizes(n, t.len(), list)?;
+    refusal::check_order(n)?;
+    refusal::check_length(t.len(), n * n, Refusal::WrongLength)?;
+    refusal::check_length(values.len(), n, Refusal::WrongLength)?;
     refusal::check_shape(t, n)?;
     diagonal_of(t, n, values)
 }
@@ -78,8 +81,9 @@ pub fn eigenvalues_of_finite(t: &[f64], n: usize, values: &mut [f64]) -> Result<
 pub fn diagonal_if_real(t: &[f64], n: usize, values: &mut [f64]) -> Result<(), Refusal>
     ensures { read result values.new ≡ diagonal_if_real n t.now values.old }
 {
-    let list = refusal::check_length(values.len(), n, Refusal::WrongLength);
-    refusal::check_sizes(n, t.len(), list)?;
+    refusal::check_order(n)?;
+    refusal::check_length(t.len(), n * n, Refusal::WrongLength)?;
+    refusal::check_length(values.len(), n, Refusal::WrongLength)?;
     diagonal_of(t, n, values)
 }
 
@@ -131,7 +135,7 @@ fn do_complex_eigenvalues(t: &[f64], n: usize, re: &mut [f64], im: &mut [f64])
     ensures im_after { im.new ≡ table n (λ k. (eigenvalue_at n t.now k).im) }
 {
     let mut before = BlockAnswer::One(0.0);
-    // By index: of what an adapter of `iter_mut` writes a proof is told nothing.
+    // By index, since each step writes into two lists: over a `zip` of two `iter_mut` an invariant can name neither.
     for k in 0..n {
         let here = answer_at(t, n, k);
         let e = here.eigenvalue(before);
@@ -173,7 +177,10 @@ pub fn complex_eigenvalues(
     ensures { complexly result re.new im.new
         ≡ complex_read n t.now re.old im.old }
 {
-    refusal::check_given(t, n, check_lists(n, re.len(), im.len()))?;
+    refusal::check_order(n)?;
+    refusal::check_length(t.len(), n * n, Refusal::WrongLength)?;
+    check_lists(n, re.len(), im.len())?;
+    refusal::check_entries(t, n)?;
     refusal::check_shape(t, n)?;
     pairs_of(t, n, re, im)
 }
@@ -189,7 +196,9 @@ pub fn complex_eigenvalues_of_finite(
     ensures { complexly result re.new im.new
         ≡ complex_finite_of n t.now re.old im.old }
 {
-    refusal::check_sizes(n, t.len(), check_lists(n, re.len(), im.len()))?;
+    refusal::check_order(n)?;
+    refusal::check_length(t.len(), n * n, Refusal::WrongLength)?;
+    check_lists(n, re.len(), im.len())?;
     refusal::check_shape(t, n)?;
     pairs_of(t, n, re, im)
 }

@@ -1,11 +1,10 @@
 // The checks that several entries make, each with the refusal that it comes to. Those who make several in turn
 // answer the first that does not pass.
-ghost use Rattle.std.specs.Prelude.{◌≡◌, length, ◌*◌};
+ghost use Rattle.std.specs.Prelude.{◌≡◌};
 ghost use Rattle.refusal.specs.declared.refusal.Refusal.TheVariants.{WrongLength, ResultNotFinite, ShapeSpoiled};
-ghost use Rattle.refusal.specs.Refusal.{refuse_at, ◌next◌};
+ghost use Rattle.refusal.specs.Refusal.{refuse_at};
 ghost use Rattle.refusal.specs.Search.{first_not_finite, first_spoiling};
 ghost use Rattle.refusal.specs.Checks.{order_checks, length_check, lent_lengths, matrix_lengths, entry_checks};
-ghost use Rattle.refusal.specs.Checks.{given_checks};
 
 use crate::refusal::Refusal;
 use crate::search::{first_not_finite, first_spoiling};
@@ -62,16 +61,6 @@ pub fn check_matrices(
     check_lent(wanted, needs, tn, qn)
 }
 
-// The order, then the lengths: the matrix's, and what the others have come to.
-#[tactic(auto, using(crate::proofs::ChecksInTurn::in_turn))]
-pub fn check_sizes(n: usize, mn: usize, others: Result<(), Refusal>) -> Result<(), Refusal>
-    ensures { result ≡ (order_checks n next length_check WrongLength mn (n * n) next others) }
-{
-    check_order(n)?;
-    check_length(mn, n * n, Refusal::WrongLength)?;
-    others
-}
-
 // An entry handed in is NaN or infinite: 6.
 #[tactic(auto, using(crate::proofs::ChecksInTurn::in_turn), unfolding(crate::specs::Checks::entry_checks))]
 pub fn check_entries(m: &[f64], n: usize) -> Result<(), Refusal>
@@ -80,15 +69,6 @@ pub fn check_entries(m: &[f64], n: usize) -> Result<(), Refusal>
     first_not_finite(m, n)
         .map(Refusal::EntryNotFinite)
         .map_or(Ok(()), Err)
-}
-
-// The order, the lengths, the entries; `others` are the lengths of what is lent beside the matrix.
-pub fn check_given(m: &[f64], n: usize, others: Result<(), Refusal>) -> Result<(), Refusal>
-    ensures { result
-        ≡ given_checks (length_check WrongLength (length m.now) (n * n) next others) n m.now }
-{
-    check_sizes(n, m.len(), others)?;
-    check_entries(m, n)
 }
 
 // An entry that was worked out is NaN or infinite: 8.

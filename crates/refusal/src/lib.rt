@@ -7,8 +7,7 @@ mod refusal;
 mod search;
 
 pub use checks::{
-    check_entries, check_given, check_length, check_lent, check_matrices, check_order,
-    check_result, check_shape, check_sizes,
+    check_entries, check_length, check_lent, check_matrices, check_order, check_result, check_shape,
 };
 pub use refusal::{Place, Refusal, Told};
 pub use search::{Finite, first_entry_not_finite, first_not_finite, first_spoiling};
