@@ -150,7 +150,7 @@ fn run(r: Request, m: &[u8], t: &mut [u8], q: &mut [u8]) -> Result<u64, Refusal>
 }
 
 // All of a call: the checks of the arguments, then the run. The counted passes are answered, or a refusal.
-#[tactic(auto, using(crate::proofs::MatrixBytes::decompose_kept, crate::proofs::MatrixBytes::decompose_ran))]
+#[tactic(auto, using(crate::proofs::MatrixBytes::decompose_kept))]
 pub(crate) fn call(r: Request, m: &[u8], t: &mut [u8], q: &mut [u8]) -> Result<u64, Refusal>
     ensures q_after { matrices (decomposed_number result) t.new q.new ≡ decompose_bytes r m.now t.old q.old }
     ensures accepted_bytes { decomposed_number result < 0x1_0000_0000 → AcceptedBytes r
