@@ -61,19 +61,6 @@ next_err r d = refl
 
 pub ruleset in_turn = (refuse_fault, refuse_none, refuse_at_some, refuse_at_none, next_ok, next_err)
 
--- In code: a check has come to x, which is what c says. If it refuses, that is what c and all behind it come to; if it passes, they come to what is left.
-pub next_first : {r : Refusal} {x c : Checked} (d : Checked) → x ≡ c → x ≡ Err r → x ≡ (c next d)
-next_first {x = x} {c = c} d e h = h ∙ sym (next_refused c d (sym e ∙ h))
-
-pub next_then : {x y c d : Checked} → x ≡ c → x ≡ passed → y ≡ d → y ≡ (c next d)
-unfolding ◌next◌
-next_then e h k = rw (← e, h) k
-
--- What `?` hands on is what the check came to. With it: `question e f ∙ next_first _ ..`.
-pub question : {e : Refusal} {r x : Checked} → IsErrAnd r (λ f. f ≡ e) → x ≡ Err e → r ≡ x
-question {r = Ok u} h k = absurd h
-question {r = Err f} h k = ap Err h ∙ sym k
-
 -- grouped in another way
 pub next_assoc : (a b c : Checked) → ((a next b) next c) ≡ (a next (b next c))
 unfolding ◌next◌
