@@ -8,7 +8,7 @@ ghost use Rattle.schur.specs.Run.{ran_of, run_fits};
 ghost use Rattle.decomposition.specs.Checks.{tolerance_fits, budget_fits, all_lengths, argument_checks, result_checks};
 ghost use Rattle.decomposition.specs.Decomposition.{outcome, nan_filled, settlement, decided, judged, decomposition_of};
 ghost use Rattle.decomposition.specs.Decomposition.{placed_of, BelowBudget, Shaped};
-ghost use Rattle.decomposition.specs.Inner.{refusal_of};
+ghost use Rattle.decomposition.specs.Inner.{refusal_of, Same, pair_of};
 
 use pass::Setting;
 use refusal::Refusal;
@@ -55,18 +55,6 @@ fn check_arguments(
     refusal::check_entries(m, n)
 }
 
-// T first, or else Q if it is wanted.
-#[tactic(auto, using(crate::proofs::Judging::checked))]
-fn check_result(t: &[f64], q: &[f64], asked: Setting) -> Result<(), Refusal>
-    ensures { result ≡ result_checks asked (pair t.now q.now) }
-{
-    refusal::check_result(t, asked.order)?;
-    if asked.wanted {
-        refusal::check_result(q, asked.order)?;
-    }
-    refusal::check_shape(t, asked.order)
-}
-
 // The budget was reached: 7. That an argument does not fit is never met here, since the lengths were checked before.
 // Neither type is of this crate, so it can't be a `From`.
 #[tactic(auto, unfolding(crate::specs::Inner::refusal_of))]
@@ -79,25 +67,73 @@ fn refusal_of(stopped: Stopped) -> Refusal
     }
 }
 
-// What is to be said of a run that left this T and Q.
-#[tactic(auto, using(crate::proofs::Judging::judging))]
-fn judge(ran: Result<u64, Stopped>, t: &[f64], q: &[f64], asked: Setting) -> Result<u64, Refusal>
-    ensures { result ≡ (decided asked ran (pair t.now q.now)).answer }
-{
-    let passes = ran.map_err(refusal_of)?;
-    check_result(t, q, asked)?;
-    Ok(passes)
+// T and Q as they are lent, and what is asked for.
+#[derive(Drop)]
+struct Matrices<'a> {
+    t: &'a mut [f64],
+    q: &'a mut [f64],
+    asked: Setting,
 }
 
-// NaN in every entry of T, and of Q if it is wanted.
-#[tactic(auto, unfolding(crate::specs::Decomposition::nan_filled))]
-fn fill_with_nan(t: &mut [f64], q: &mut [f64], asked: Setting)
-    ensures { pair t.new q.new ≡ nan_filled asked (pair t.old q.old) }
-{
-    let nan = scalar::not_a_number();
-    matrix::fill(t, nan);
-    if asked.wanted {
-        matrix::fill(q, nan);
+impl Matrices<'_> {
+    // T first, or else Q if it is wanted.
+    #[tactic(auto, using(crate::proofs::Judging::checked))]
+    fn check_result(&self) -> Result<(), Refusal>
+        ensures { result ≡ result_checks self.now.asked (pair_of self.now) }
+    {
+        refusal::check_result(self.t, self.asked.order)?;
+        if self.asked.wanted {
+            refusal::check_result(self.q, self.asked.order)?;
+        }
+        refusal::check_shape(self.t, self.asked.order)
+    }
+
+    // What is to be said of a run that left this T and Q.
+    #[tactic(auto, using(crate::proofs::Judging::judging))]
+    fn judge(&self, ran: Result<u64, Stopped>) -> Result<u64, Refusal>
+        ensures { result ≡ (decided self.now.asked ran (pair_of self.now)).answer }
+    {
+        let passes = ran.map_err(refusal_of)?;
+        self.check_result()?;
+        Ok(passes)
+    }
+
+    // NaN in every entry of T, and of Q if it is wanted.
+    #[tactic(auto, unfolding(crate::specs::Decomposition::nan_filled))]
+    fn fill_with_nan(&mut self)
+        ensures filled { pair_of self.new ≡ nan_filled self.old.asked (pair_of self.old) }
+        ensures same { Same self.old self.new }
+    {
+        let nan = scalar::not_a_number();
+        matrix::fill(self.t, nan);
+        if self.asked.wanted {
+            matrix::fill(self.q, nan);
+        }
+    }
+
+    // What is answered to a run that answered so, and left this T and Q.
+    fn decide(&mut self, ran: Result<u64, Stopped>) -> Result<u64, Refusal>
+        ensures decided { settlement result (pair_of self.new)
+            ≡ decided self.old.asked ran (pair_of self.old) }
+        ensures same { Same self.old self.new }
+    {
+        let judged = self.judge(ran);
+        if judged.is_err() {
+            self.fill_with_nan();
+        }
+        judged
+    }
+
+    // The arguments have passed, and T holds the matrix.
+    fn decompose(&mut self, budget: u64, work: &mut [f64]) -> Result<u64, Refusal>
+        requires { run_fits self.old.asked.order (length self.old.t.now) (length work.old) ≡ true }
+        ensures judged { outcome result (pair_of self.new) work.new
+            ≡ judged self.old.asked (ran_of self.old.asked budget (pair_of self.old) work.old)
+            work.old }
+        ensures same { Same self.old self.new }
+    {
+        let ran = schur::do_decompose(self.t, self.q, self.asked, budget, work);
+        self.decide(ran)
     }
 }
 
@@ -112,28 +148,7 @@ pub fn decide(
     ensures { settlement result (pair t.new q.new)
         ≡ decided asked ran (pair t.old q.old) }
 {
-    let judged = judge(ran, t, q, asked);
-    if judged.is_err() {
-        fill_with_nan(t, q, asked);
-    }
-    judged
-}
-
-// The arguments have passed, and T holds the matrix.
-fn decompose(
-    t: &mut [f64],
-    q: &mut [f64],
-    asked: Setting,
-    budget: u64,
-    work: &mut [f64],
-) -> Result<u64, Refusal>
-    requires { run_fits asked.order (length t.old) (length work.old) ≡ true }
-    ensures { outcome result (pair t.new q.new) work.new
-        ≡ judged asked (ran_of asked budget (pair t.old q.old) work.old)
-        work.old }
-{
-    let ran = schur::do_decompose(t, q, asked, budget, work);
-    decide(ran, t, q, asked)
+    Matrices { t, q, asked }.decide(ran)
 }
 
 // The matrix in t is decomposed in place: t becomes T, and q becomes Q if it is wanted; else q is not looked at.
@@ -151,7 +166,7 @@ pub fn try_new_in_place(
     ensures shaped { Shaped result asked.order t.new }
 {
     check_arguments(t, asked, budget, t.len(), q.len(), work.len())?;
-    decompose(t, q, asked, budget, work)
+    Matrices { t, q, asked }.decompose(budget, work)
 }
 
 // The same for a matrix that is kept: t becomes a copy of m, once nothing is refused, and is decomposed in place.
@@ -170,5 +185,5 @@ pub fn try_new(
 {
     check_arguments(m, asked, budget, t.len(), q.len(), work.len())?;
     matrix::copy_from(t, m);
-    decompose(t, q, asked, budget, work)
+    Matrices { t, q, asked }.decompose(budget, work)
 }

@@ -39,6 +39,6 @@ returns c =
     let x = c.args in
     let passed = sym c.check_arguments.ensures ∙ c.in_ok-check_arguments.was in
     let here = ap (λ t. judged x.asked (ran_of x.asked x.budget (pair t x.q.now) x.work.now) x.work.now) (copied (goal.at.returns c).After-copy_from) in
-    let whole = c.decompose.ensures ∙ here ∙ sym (run_judged _ _ _ _ (pair _ _) _ passed) in
+    let whole = c.decompose.ensures.judged ∙ here ∙ sym (run_judged _ _ _ _ (pair _ _) _ passed) in
     let kept = promised x.asked x.budget x.m.now (pair x.t.now x.q.now) x.work.now (pair _ _) whole in
-    record { work_after = whole; below_budget = kept.0; shaped = kept.1 }
+    record { work_after = search (rules, whole); below_budget = kept.0; shaped = search (rules, kept.1) }

@@ -20,6 +20,6 @@ pub returns : goal.returns
 returns c =
     let x = c.args in
     let passed = sym c.check_arguments.ensures ∙ c.in_ok-check_arguments.was in
-    let whole = c.decompose.ensures ∙ sym (run_judged _ _ _ _ (pair _ _) _ passed) in
+    let whole = c.decompose.ensures.judged ∙ sym (run_judged _ _ _ _ (pair _ _) _ passed) in
     let kept = promised x.asked x.budget x.t.now (pair x.t.now x.q.now) x.work.now (pair _ _) whole in
-    record { work_after = whole; below_budget = kept.0; shaped = kept.1 }
+    record { work_after = search (rules, whole); below_budget = kept.0; shaped = search (rules, kept.1) }
