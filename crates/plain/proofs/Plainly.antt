@@ -1,7 +1,7 @@
 -- The plain entry, told of the pieces that the code has in hand. Assumes nothing.
 use Rattle.std.specs.Prelude.{Err, None, Ok, Option, Some}
 use Rattle.std.specs.Option.{ok_or}
-use Prim.Native.Nat.{ℕ}
+use Prim.Native.Nat.{ℕ, ◌*◌}
 use mathlib.Core.Bool.{Bool, true, false, not}
 use mathlib.Core.Path.{◌≡◌, refl, sym, ap, ◌∙◌}
 use mathlib.Core.List.{List, [], ◌∷◌}
@@ -47,6 +47,10 @@ sizes_passed n mn vn wn h =
 pub given_sized : (n mn vn wn : ℕ) (m : List Float) → given_checks (plain_lengths n mn vn wn) n m ≡ passed → Sized n mn vn wn
 unfolding given_checks
 given_sized n mn vn wn m h = sizes_passed n mn vn wn (next_before _ _ _ h)
+
+-- and of the square alone
+pub sized_square : {n mn vn wn : ℕ} → Sized n mn vn wn → Sized n (n * n) vn wn
+sized_square z = record { some = z.some; order = z.order; square = refl; list = z.list; room = z.room }
 
 -- as the code makes the checks of the arguments
 pub given_made : (lengths : Checked) (n : ℕ) (m : List Float) → given_checks lengths n m ≡ ((order_checks n next lengths) next entry_checks n m)
@@ -148,4 +152,4 @@ pub copy_kept : {r : Refusal} {a c : Checked} (n : ℕ) (t values w : List Float
 unfolding plain_begun
 copy_kept n t values w h e = rw (h, e)
 
-pub ruleset begun = (given_sized, sizes_passed, begun_kept, copy_kept, copied_in_place)
+pub ruleset begun = (given_sized, sizes_passed, sized_square, begun_kept, copy_kept, copied_in_place)

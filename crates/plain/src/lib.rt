@@ -3,16 +3,15 @@
 #![tactic(auto)]
 
 ghost use Rattle.std.specs.Prelude.{◌≡◌, true, [], length, ◌*◌, ◌≤◌};
-ghost use Rattle.pass.specs.Block.{block_at, eigvals_of};
+ghost use Rattle.pass.specs.Block.{block_at};
 ghost use Rattle.pass.specs.Pair.{pair};
 ghost use Rattle.schur.specs.Run.{run_fits};
-ghost use Rattle.refusal.specs.Refusal.{passed, ◌next◌};
+ghost use Rattle.refusal.specs.Refusal.{◌next◌};
 ghost use Rattle.refusal.specs.Checks.{order_checks, given_checks};
 ghost use Rattle.decomposition.specs.Decomposition.{outcome};
 ghost use Rattle.eigenvalues.specs.Readers.{read, left_by};
-ghost use Rattle.plain.specs.Plain.{plain_lengths, Sized, plain_two, plain_ran, in_place, plain_begun};
-ghost use Rattle.plain.specs.Plain.{plain_placed_of, plain_finite_of, plain, kept, plain_of};
-ghost use Rattle.plain.specs.Inner.{TwoDone, RunDone};
+ghost use Rattle.plain.specs.Plain.{plain_lengths, Sized, plain_two, plain_ran, in_place};
+ghost use Rattle.plain.specs.Plain.{plain_placed_of, plain_finite_of, plain, plain_of};
 
 use pass::{Block, Setting, Values};
 use refusal::{Place, Refusal};
@@ -67,16 +66,13 @@ fn block_of(m: &[f64]) -> Block
     }
 }
 
-// Order 2: no run, so that the matrix is only read, and the larger eigenvalue first; the workspace is cleared as a
-// run clears it.
-fn plain_two(m: &[f64], values: &mut [f64], work: &mut [f64]) -> Result<(), Refusal>
-    requires { (length m.now ≡ 4) × (length values.old ≡ 2) }
-    ensures { TwoDone m.now values.old work.old result values.new
-        work.new }
-{
-    matrix::fill(work, 0.0);
-    let v = pass::compute_2x2_eigvals(block_of(m)).ok_or(Refusal::ComplexEigenvalues)?;
-    two_values(v, values)
+// What is lent beside a matrix of order n, once the arguments have passed: the list of eigenvalues, the workspace.
+#[derive(Drop)]
+struct Loan<'a> {
+    n: usize,
+    values: &'a mut [f64],
+    work: &'a mut [f64],
+    ghost sized: { Sized n (n * n) (length values.now) (length work.now) },
 }
 
 // The decomposition without Q, in place.
@@ -95,26 +91,66 @@ fn decompose(t: &mut [f64], n: usize, work: &mut [f64]) -> Result<u64, Refusal>
     decomposition::decide(ran, t, &mut q, asked)
 }
 
-// Every other order: the diagonal of T, if it is accepted and no block of two stands.
-fn plain_run(t: &mut [f64], n: usize, values: &mut [f64], work: &mut [f64]) -> Result<(), Refusal>
-    requires { Sized n (length t.old) (length values.old) (length work.old) }
-    ensures { RunDone n t.old values.old work.old result t.new
-        values.new work.new }
-{
-    decompose(t, n, work)?;
-    eigenvalues::diagonal_if_real(t, n, values)
-}
+impl Loan<'_> {
+    ghost use Rattle.plain.specs.Inner.{TwoDone, RunDone, Done, KeptDone};
 
-// The arguments have passed.
-fn plain_any(t: &mut [f64], n: usize, values: &mut [f64], work: &mut [f64]) -> Result<(), Refusal>
-    requires { Sized n (length t.old) (length values.old) (length work.old) }
-    ensures { in_place result t.new values.new work.new
-        ≡ plain_begun passed n t.old values.old work.old }
-{
-    if n == 2 {
-        plain_two(t, values, work)
-    } else {
-        plain_run(t, n, values, work)
+    // Order 2: no run, so that the matrix is only read, and the larger eigenvalue first; the workspace is cleared as a
+    // run clears it.
+    fn two(&mut self, m: &[f64]) -> Result<(), Refusal>
+        requires { (length m.now ≡ self.old.n * self.old.n) × (self.old.n ≡ 2) }
+        ensures { TwoDone m.now self.old result self.new }
+    {
+        matrix::fill(self.work, 0.0);
+        let v = pass::compute_2x2_eigvals(block_of(m)).ok_or(Refusal::ComplexEigenvalues)?;
+        two_values(v, self.values)
+    }
+
+    // Every other order: the diagonal of T, if it is accepted and no block of two stands.
+    fn run(&mut self, t: &mut [f64]) -> Result<(), Refusal>
+        requires { length t.old ≡ self.old.n * self.old.n }
+        ensures { RunDone t.old self.old result t.new self.new }
+    {
+        decompose(t, self.n, self.work)?;
+        eigenvalues::diagonal_if_real(t, self.n, self.values)
+    }
+
+    // Every order, in place.
+    fn any(&mut self, t: &mut [f64]) -> Result<(), Refusal>
+        requires { length t.old ≡ self.old.n * self.old.n }
+        ensures { Done t.old self.old result t.new self.new }
+    {
+        if self.n == 2 {
+            self.two(t)
+        } else {
+            self.run(t)
+        }
+    }
+
+    // A matrix that is kept: a copy of it is worked on, in room for ROOM numbers: nothing here asks for memory.
+    fn copied<const ROOM: usize>(&mut self, m: &[f64]) -> Result<(), Refusal>
+        requires { (length m.now ≡ self.old.n * self.old.n) × (self.old.n * self.old.n ≤ ROOM) × (ROOM ≤ 4096) }
+        ensures { KeptDone m.now self.old result self.new }
+    {
+        let mut room = [0.0f64; ROOM];
+        let t = &mut room[..self.n * self.n];
+        matrix::copy_from(t, m);
+        self.any(t)
+    }
+
+    // Every order: 2 needs no room, and small ones do not pay for clearing a large room.
+    fn kept(&mut self, m: &[f64]) -> Result<(), Refusal>
+        requires { length m.now ≡ self.old.n * self.old.n }
+        ensures { KeptDone m.now self.old result self.new }
+    {
+        if self.n == 2 {
+            self.two(m)
+        } else if self.n <= 8 {
+            self.copied::<64>(m)
+        } else if self.n <= 32 {
+            self.copied::<1024>(m)
+        } else {
+            self.copied::<4096>(m)
+        }
     }
 }
 
@@ -131,7 +167,7 @@ pub fn plain_eigenvalues_in_place(
         ≡ plain_placed_of n t.old values.old work.old }
 {
     check_arguments(t, n, values.len(), work.len())?;
-    plain_any(t, n, values, work)
+    Loan { n, values, work }.any(t)
 }
 
 // The same for entries that are known to be finite: they are not looked at again.
@@ -146,41 +182,7 @@ pub fn plain_eigenvalues_of_finite(
         ≡ plain_finite_of n t.old values.old work.old }
 {
     check_sizes(n, t.len(), values.len(), work.len())?;
-    plain_any(t, n, values, work)
-}
-
-// A matrix that is kept: a copy of it is worked on, in room for ROOM numbers: nothing here asks for memory.
-fn plain_in<const ROOM: usize>(
-    m: &[f64],
-    n: usize,
-    values: &mut [f64],
-    work: &mut [f64],
-) -> Result<(), Refusal>
-    requires { Sized n (length m.now) (length values.old) (length work.old) × (n * n ≤ ROOM) × (ROOM ≤ 4096) }
-    ensures { plain result values.new work.new
-        ≡ kept (plain_begun passed n m.now values.old work.old) }
-{
-    let mut room = [0.0f64; ROOM];
-    let t = &mut room[..n * n];
-    matrix::copy_from(t, m);
-    plain_any(t, n, values, work)
-}
-
-// Every order: 2 needs no room, and small ones do not pay for clearing a large room.
-fn plain_kept(m: &[f64], n: usize, values: &mut [f64], work: &mut [f64]) -> Result<(), Refusal>
-    requires { Sized n (length m.now) (length values.old) (length work.old) }
-    ensures { plain result values.new work.new
-        ≡ kept (plain_begun passed n m.now values.old work.old) }
-{
-    if n == 2 {
-        plain_two(m, values, work)
-    } else if n <= 8 {
-        plain_in::<64>(m, n, values, work)
-    } else if n <= 32 {
-        plain_in::<1024>(m, n, values, work)
-    } else {
-        plain_in::<4096>(m, n, values, work)
-    }
+    Loan { n, values, work }.any(t)
 }
 
 // The same for a matrix that is kept: a copy of it is worked on in place.
@@ -195,5 +197,5 @@ pub fn plain_eigenvalues(
         ≡ plain_of n m.now values.old work.old }
 {
     check_arguments(m, n, values.len(), work.len())?;
-    plain_kept(m, n, values, work)
+    Loan { n, values, work }.kept(m)
 }
