@@ -1,5 +1,5 @@
 // The entries that give lists of eigenvalues, over bytes: checks, the floats, the eigenvalues, and their bytes. Their
-// rooms are arrays of three sizes, and what an entry has of its own is a type's.
+// rooms are arrays of three sizes, since nothing here asks for memory, and what an entry has of its own is a type's.
 ghost use Rattle.std.specs.Prelude.{◌≡◌, ◌*◌, ◌≤◌, length};
 ghost use Rattle.refusal.specs.Refusal.{passed, if_passed};
 ghost use Rattle.words.specs.Floats.{bytes_of};

@@ -7,4 +7,3 @@ pub mod DiagonalSearch
 pub mod One
 mod Making
 mod ReaderChecks
-mod Filling

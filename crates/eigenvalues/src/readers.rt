@@ -166,7 +166,8 @@ fn pairs_of(t: &[f64], n: usize, re: &mut [f64], im: &mut [f64]) -> Result<(), R
     Ok(())
 }
 
-// The eigenvalues of T, by their real and imaginary parts. A refusal leaves both lists as they were.
+// The eigenvalues of T, by their real and imaginary parts: two lists, as C lends them. A refusal leaves both as they
+// were.
 #[tactic(auto, using(crate::proofs::Making::made))]
 pub fn complex_eigenvalues(
     t: &[f64],

@@ -8,7 +8,7 @@ use Rattle.eigenvalues.specs.Readers.{read, left_by}
 use Rattle.plain.specs.declared.Loan.{Loan}
 use Rattle.plain.specs.Plain.{plain_two, plain_ran, plain_run, in_place, plain_begun, plain, kept}
 
--- l' is what l is: the same list of eigenvalues, and the same workspace
+-- l' holds what l holds: the same list of eigenvalues, and the same workspace
 pub record Same (l l' : Loan) : Type 0 where
   pub values : l'.values.ghost_name ≡ l.values.ghost_name
   pub work : l'.work.ghost_name ≡ l.work.ghost_name

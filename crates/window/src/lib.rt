@@ -9,7 +9,7 @@ mod place;
 
 use crate::place::{get, put};
 
-// Its first and its last row.
+// Its first and its last row; 0 0 once it has closed, which is also what callers report.
 #[derive(Clone, Copy, Debug, PartialEq, Eq)]
 pub struct Window {
     pub start: usize,

@@ -8,4 +8,7 @@ use Rattle.decomposition.proofs.Matrices.judge.Goals as goal
 
 pub returns-in_err-check_result : goal.returns-in_err-check_result
 returns-in_err-check_result c =
-    judged_refused {ran = c.args.ran} c.args.self.now.asked c.in_ok-passes.passes (pair _ _) (grind (arith, common_steps)) (sym c.check_result.ensures ∙ c.in_err-check_result.was) (search rules)
+    judged_refused {ran = c.args.ran} c.args.self.now.asked c.in_ok-passes.passes (pair _ _)
+    (grind (arith, common_steps))
+    (sym c.check_result.ensures ∙ c.in_err-check_result.was)
+    (search rules)

@@ -2,7 +2,7 @@
 use native.Mathlib.Omega.{arith}
 use mathlib.Core.Path.{ap, ◌∙◌}
 use Rattle.eigenvalues.proofs.BlockAnswers.{before_first, before_next, eigenvalue_by}
-use Rattle.eigenvalues.proofs.Filling.{filled_none, filled_more, filled_done}
+use Rattle.matrix.proofs.Filled.{filled_none, filled_more, filled_done}
 use Rattle.eigenvalues.proofs.readers.do_complex_eigenvalues.Goals as goal
 
 pub loop-k-init : goal.loop-k-init

@@ -5,7 +5,7 @@ use mathlib.Core.Path.{◌≡◌}
 use lib.Ieee.{Float}
 use Rattle.eigenvalues.specs.declared.block.BlockAnswer.{BlockAnswer}
 use Rattle.eigenvalues.specs.Blocks.{answer_before, eigenvalue_at}
-use Rattle.eigenvalues.proofs.Filling.{Filled}
+use Rattle.matrix.proofs.Filled.{Filled}
 use Rattle.eigenvalues.proofs.readers.do_complex_eigenvalues.Given as goal
 
 -- the parts of the first k eigenvalues are written, and `before` is what the row before k has answered

@@ -26,7 +26,9 @@ returns-then-j-eq0 c =
     elim c.then-j-eq0.branch [
       | then-j-eq0-via-then-j-eq0 w ↦ just_first x.n x.t.now x.j w.if-j-eq0.true
       | then-j-eq0-via-else-j-eq0+then-is_zero w ↦
-          just_zero x.n x.t.now x.j (sym (tested x.n (x.j + 1) x.j x.t.now (omega arith) (omega arith) (omega arith) (omega arith) w.is_zero.ensures w.entry.ensures) ∙ w.if-is_zero.true)
+          just_zero x.n x.t.now x.j
+          (sym (tested x.n (x.j + 1) x.j x.t.now (omega arith) (omega arith) (omega arith) (omega arith) w.is_zero.ensures w.entry.ensures)
+            ∙ w.if-is_zero.true)
     ]
 
 pub returns : goal.returns
