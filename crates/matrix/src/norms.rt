@@ -1,5 +1,5 @@
-// The norm of a slice of a length known at run time, summed in eight lanes. A vector sums from left to right (`vector`),
-// so it has functions of its own.
+// The norm of a slice of a length known at run time, summed in eight lanes. A vector sums from left to right
+// (`vector`), so it has functions of its own.
 ghost use Rattle.std.specs.Prelude.{◌≡◌};
 ghost use Rattle.matrix.specs.Sum.{lanes};
 ghost use Rattle.matrix.specs.Vectors.{norm_squared, norm_of, normalized};
