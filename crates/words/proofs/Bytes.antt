@@ -80,14 +80,14 @@ pub floats_back : (a : List Float) → ((k : ℕ) → k < length a → T (fits b
 floats_back a fit =
     rw (← bytes_flat a)
     (ext_get_or nan (floats_of (flat_map bytes a)) a
-      (floats_of-length (flat_map bytes a) ∙ omega (arith, flat-length a))
-      (λ k l. at k (omega (arith, floats_of-length (flat_map bytes a), flat-length a))))
+    (floats_of-length (flat_map bytes a) ∙ omega (arith, flat-length a))
+    (λ k l. at k (omega (arith, floats_of-length (flat_map bytes a), flat-length a))))
   where
     at : (k : ℕ) → k < length a → floats_of (flat_map bytes a) ! k ≡ a ! k
     at k l =
         floats_of-at (flat_map bytes a) k (omega (arith, flat-length a))
         ∙ ap (of_bits binary64)
         (sym (le64_bytes (flat_map bytes a) (8 * k))
-          ∙ ap (from_le_bytes w64) (flat_word a k l)
-          ∙ from_le_bytes-to_le_bytes_8 _ (to_bits-lt binary64 (a ! k) (fit k l)))
+        ∙ ap (from_le_bytes w64) (flat_word a k l)
+        ∙ from_le_bytes-to_le_bytes_8 _ (to_bits-lt binary64 (a ! k) (fit k l)))
         ∙ of_bits-to_bits binary64 (a ! k) (fit k l)

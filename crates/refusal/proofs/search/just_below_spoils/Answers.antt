@@ -28,7 +28,7 @@ returns-then-j-eq0 c =
       | then-j-eq0-via-else-j-eq0+then-is_zero w ↦
           just_zero x.n x.t.now x.j
           (sym (tested x.n (x.j + 1) x.j x.t.now (omega arith) (omega arith) (omega arith) (omega arith) w.is_zero.ensures w.entry.ensures)
-            ∙ w.if-is_zero.true)
+          ∙ w.if-is_zero.true)
     ]
 
 pub returns : goal.returns
