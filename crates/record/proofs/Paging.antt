@@ -27,17 +27,23 @@ more-append s t p =
 -- ---- by what calls have left
 
 -- nothing
-none_put : (p : Page) → Put [] 0 p p
+pub none_put : (p : Page) → Put [] 0 p p
 unfolding more
 none_put p = record { text = rw add-zero; end = omega arith }
 
 -- a wider bound
-put_within : {s : List ℕ} {k most : ℕ} {p q : Page} → k ≤ most → Put s k p q → Put s most p q
+pub put_within : {s : List ℕ} {k most : ℕ} {p q : Page} → k ≤ most → Put s k p q → Put s most p q
 put_within h x = record { text = x.text; end = omega arith }
 
 -- two pieces
-both_put : {a b : List ℕ} {j k : ℕ} {p q r : Page} → Put a j p q → Put b k q r → Put (a ++ b) (j + k) p r
+pub both_put : {a b : List ℕ} {j k : ℕ} {p q r : Page} → Put a j p q → Put b k q r → Put (a ++ b) (j + k) p r
 both_put {a} {b} {p = p} x y = record { text = y.text ∙ ap (more b) x.text ∙ sym (more-append a b p); end = omega arith }
+
+-- the five of a line
+pub line_put : {a b c d e : List ℕ} {i j k l m most : ℕ} {p q r s t u : Page} → Put a i p q → Put b j q r → Put c k r s → Put d l s t → Put e m t u
+    → i + j + k + l + m ≤ most
+    → Put (a ++ b ++ c ++ d ++ e) most p u
+line_put v w x y z h = put_within h (both_put (both_put (both_put (both_put v w) x) y) z)
 
 -- ---- on one lent slice
 
@@ -77,7 +83,7 @@ bytes_puts s {i} x h y = puts_as (rw (add-one, take-suc s i 0 h)) (both_puts x y
 
 -- ---- the whole text
 
-all_printed : {p : Page} {s lent : List ℕ} → 65536 ≤ length lent → Put s 65536 (page 0 lent) p → p ≡ printed s lent
+pub all_printed : {p : Page} {s lent : List ℕ} → 65536 ≤ length lent → Put s 65536 (page 0 lent) p → p ≡ printed s lent
 unfolding more printed
 all_printed {s = s} {lent} h x =
     let at = ap (λ q. q.at) x.text in
