@@ -7,7 +7,9 @@ use native.Mathlib.Numerals.{add-one}
 use native.Mathlib.Omega.{arith}
 use borrow.Author.Tests.{le-leb, lt-leb}
 use lib.ListN.{length, get_or, take, drop, set, length-append, length-set}
-use lib.Seq.{length-take-le, take-suc, sets, sets-eq}
+use lib.Seq.{length-take-le, take-length, take-suc, sets, sets-eq, length-sets}
+use borrow.Rule.Slice.PartMut.{put_mid}
+use Rattle.std.proofs.lemmas.Slice.{put_mid-paste}
 use Rattle.io.specs.Counts.{IsPrefixLen}
 use Rattle.record.specs.declared.page.Page.{Page as LentPage}
 use Rattle.record.specs.Page.{Page, page, printed, more, Put}
@@ -59,6 +61,20 @@ byte_puts {p} {q} b same text at = record {
   size = ap length text ∙ simp length-set;
   put = record { text = rw (text, at) refl; end = omega arith };
 }
+
+-- a piece that is copied: the part of the text that it takes holds it then
+pub piece_puts : {p q : LentPage} {s part : List ℕ} {k : ℕ} → p.at + length s ≤ length p.text.now → q.text.ghost_name ≡ p.text.ghost_name
+    → q.text.now ≡ put_mid p.at k p.text.now part → part ≡ s → k ≡ length s → q.at ≡ p.at + length s → Puts s (length s) p q
+unfolding more
+piece_puts {p} {q} {s} {part} {k} room same text copied size at =
+    let whole : put_mid p.at k p.text.now part ≡ sets p.text.now p.at s =
+    put_mid-paste p.at k p.text.now part s (length s) copied (sym size) refl
+    ∙ rw (take-length s, sets-eq s p.text.now p.at room) in
+    record {
+      same_slice = same;
+      size = ap length (text ∙ whole) ∙ length-sets p.text.now p.at s;
+      put = record { text = rw (text ∙ whole, at) refl; end = omega arith };
+    }
 
 -- the same text in other words, and a wider bound
 pub puts_as : {s t : List ℕ} {most : ℕ} {p q : LentPage} → s ≡ t → Puts s most p q → Puts t most p q
