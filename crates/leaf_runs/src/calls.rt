@@ -235,20 +235,53 @@ fn reduced_to_column(rt: &impl Print, given: &str) -> Option<()> {
     Some(())
 }
 
-// Runs a call on its numbers, and tells what it answers or leaves.
+// Runs a call on its numbers, and tells what it answers or leaves. The name is looked at first, so that no function but
+// its own reads numbers or draws any.
 pub(crate) fn run(rt: &impl Print, name: &str, given: &str) -> Option<()> {
     match name {
-        "put" => put(rt, given),
+        "normalize_mut" | "scale_mut" | "unscale_mut" | "fill" | "reflection_axis_mut" => {
+            slice_changed(rt, name, given)
+        }
+        "norm_squared" | "norm" | "camax" => slice_summed(rt, name, given),
+        "dot" | "copy_from" => two_slices(rt, name, given),
         "entry" => entry(rt, given),
+        "put" => put(rt, given),
         "block_fits" => block_fits(rt, given),
+        "Vector2::dot"
+        | "Vector3::dot"
+        | "Vector2::norm_squared"
+        | "Vector3::norm_squared"
+        | "Vector2::norm"
+        | "Vector3::norm"
+        | "Vector2::unscale"
+        | "Vector3::unscale"
+        | "Vector2::normalize"
+        | "Vector3::normalize"
+        | "reflection_axis2"
+        | "reflection_axis3"
+        | "Rotation::identity"
+        | "Rotation::new"
+        | "Rotation::try_new"
+        | "Rotation::cancel_y"
+        | "Rotation::inverse" => of_seed(rt, name, given),
+        "rotate"
+        | "rotate_rows"
+        | "reflect"
+        | "reflect3"
+        | "reflect2"
+        | "reflect_with_sign"
+        | "reflect3_with_sign"
+        | "reflect2_with_sign"
+        | "reflect_rows"
+        | "reflect_rows3"
+        | "reflect_rows2"
+        | "reflect_rows_with_sign"
+        | "reflect_rows3_with_sign"
+        | "reflect_rows2_with_sign" => matrix_moved(rt, name, given),
+        "clear_column" | "clear_column, matrix" => column_cleared(rt, name, given),
         "assemble_q" => assemble_q(rt, given),
+        "reduce, matrix" | "reduce, Q" => reduced(rt, name, given),
         "reduce, column" => reduced_to_column(rt, given),
-        _ => slice_changed(rt, name, given)
-            .or_else(|| slice_summed(rt, name, given))
-            .or_else(|| two_slices(rt, name, given))
-            .or_else(|| of_seed(rt, name, given))
-            .or_else(|| matrix_moved(rt, name, given))
-            .or_else(|| column_cleared(rt, name, given))
-            .or_else(|| reduced(rt, name, given)),
+        _ => None,
     }
 }

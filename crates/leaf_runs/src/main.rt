@@ -7,14 +7,16 @@
 // `oracle/run leaves --write` stores it.
 #![tactic(auto)]
 
+ghost use Rattle.std.specs.Prelude.{◌≤◌, length};
+
 mod calls;
 mod draw;
 mod say;
 mod vectors;
 
-use std::io::Read;
+use std::io::{ErrorKind, Read};
 
-// A text has fewer bytes.
+// A text has fewer bytes. Its room lies on the stack: the program asks for no memory, which it might not get.
 const ROOM: usize = 65536;
 
 // A line's name ends where a number begins behind a space: there are spaces in names too.
@@ -39,14 +41,34 @@ fn tell(rt: &impl Print, number: usize, line: &[u8]) {
     let _ = println!(rt);
 }
 
-// A read that fails ends the text, and a write that fails is passed over.
+// How much of the room a text fills. A read that fails ends it; one that is interrupted, or short, does not. The range
+// is there so that the loop has an end: reads might be interrupted for ever.
+fn fill(source: &mut impl Read, room: &mut [u8]) -> usize
+    ensures { result ≤ length room.new }
+{
+    let mut done = 0;
+    for _ in 0..u64::MAX {
+        if room.len() <= done {
+            break;
+        }
+        match source.read(&mut room[done..]) {
+            Ok(0) => break,
+            Ok(n) => done += n,
+            Err(e) if e.kind() == ErrorKind::Interrupted => {}
+            Err(_) => break,
+        }
+    }
+    done
+}
+
+// A write that fails is passed over.
 fn main(rt: HostRuntime) {
-    let mut text = Vec::new(rt.alloc());
-    let _ = rt.stdin().take(ROOM as u64).read_to_end(&mut text);
-    for (number, line) in (1..).zip(text.split(|byte| *byte == b'\n')) {
+    let mut room = [0; ROOM];
+    let len = fill(&mut rt.stdin(), &mut room);
+    for (number, line) in (1..).zip(room[..len].split(|byte| *byte == b'\n')) {
         tell(&rt, number, line);
     }
-    if text.len() == ROOM {
+    if len == ROOM {
         let _ = println!(rt; "not understood: more text than there is room for");
     }
 }

@@ -21,16 +21,21 @@ fn say(rt: &HostRuntime, text: &[u8]) -> io::Result<()> {
     }
 }
 
+// The text of a record. Its room is cleared as this function begins: in `answer` it was cleared twice, before the
+// reads and behind them.
+fn print(rt: &HostRuntime, input: &[u8]) -> io::Result<()> {
+    let mut text = [0; 65536];
+    let n = record::answer(input, &mut text);
+    say(rt, &text[..n])
+}
+
 // The text of the record that a file holds.
 fn answer(rt: &HostRuntime, file: &mut File) -> io::Result<()> {
     let mut input = record::room();
-    let k = match reading::fill(file, &mut input) {
-        Ok(k) => k,
-        Err(e) => return tell(rt, "looproots_runs: a file was not read", e),
-    };
-    let mut text = [0; 65536];
-    let n = record::answer(&input[..k], &mut text);
-    say(rt, &text[..n])
+    match reading::fill(file, &mut input) {
+        Ok(k) => print(rt, &input[..k]),
+        Err(e) => tell(rt, "looproots_runs: a file was not read", e),
+    }
 }
 
 fn file(rt: &HostRuntime, name: &str) -> io::Result<()> {

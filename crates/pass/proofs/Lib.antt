@@ -4,5 +4,6 @@ pub mod Independent
 pub mod BlockFrames
 pub mod Swept
 pub mod Lengths
+mod BlockWays
 mod Stepping
 mod Fitted

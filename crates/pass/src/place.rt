@@ -1,6 +1,6 @@
 // Row i of column j of a matrix of order n, where the caller knows that it is there: for the total read and
-// write see `matrix::entry` and `matrix::put`. The crate `window` has the same pair: one that both could call would
-// have to be public, so total, and would test in every call what its callers know.
+// write see `matrix::entry` and `matrix::put`. `window` and `pass` have this same file: a pair that both could call
+// would have to be public, so total, and would test in every call what its callers know.
 ghost use Rattle.std.specs.Prelude.{◌≡◌, length, set, ◌+◌, ◌*◌, ◌<◌, ◌≤◌};
 ghost use Rattle.loops.specs.Place.{place};
 ghost use Rattle.loops.specs.Rounded.{◌!◌};

@@ -1,14 +1,27 @@
 -- What one read comes to, by what is tested of its answer. Assumes nothing.
-use Rattle.std.proofs.Common.{◌≡◌, refl, ℕ, zero, suc, ◌+◌, ◌<◌, ◌≤◌, min, arith}
-use Rattle.std.specs.Prelude.{◌≢◌, Ok, Err, Some}
+use Rattle.std.proofs.Common.{◌≡◌, refl, sym, ap, ◌∙◌, ℕ, zero, suc, ◌+◌, ◌<◌, ◌≤◌, min, arith}
+use Rattle.std.specs.Prelude.{◌≢◌, Ok, Err, Some, None}
 use Rattle.std.specs.declared.result.Result.{Result}
 use Rattle.std.specs.declared.io.Error.{Error}
 use Rattle.reading.specs.Reading.{after_read}
 
-pub some_came : (done room n : ℕ) → n ≢ 0 → after_read done room (Ok n) ≡ Ok (Some (done + min n room))
-unfolding after_read
-some_came done room zero h = absurd (h refl)
-some_came done room (suc n) h = refl
+module _ (done room : ℕ) where
+  pub broken : (e : Error) → Err e ≡ after_read done room (Err e)
+  unfolding after_read
+  broken e = refl
+
+  pub ended : (n : ℕ) → n ≡ 0 → Ok None ≡ after_read done room (Ok n)
+  unfolding after_read
+  ended zero e = refl
+  ended (suc n) e = absurd (omega arith)
+
+  pub some_came : (n : ℕ) → n ≢ 0 → after_read done room (Ok n) ≡ Ok (Some (done + min n room))
+  unfolding after_read
+  some_came zero h = absurd (h refl)
+  some_came (suc n) h = refl
+
+  pub all_came : (n : ℕ) → n ≢ 0 → room ≤ n → Ok (Some (done + room)) ≡ after_read done room (Ok n)
+  all_came n e h = let m : room ≡ min n room = omega arith in ap (λ k. Ok (Some (done + k))) m ∙ sym (some_came n e)
 
 -- a read that brings more brings some, and no more than there is room for
 pub record Came (done room more : ℕ) : Type 0 where

@@ -7,7 +7,9 @@ use native.Mathlib.Numerals.{add-one}
 use native.Mathlib.Omega.{arith}
 use borrow.Author.Tests.{le-leb, lt-leb}
 use lib.ListN.{length, get_or, take, drop, set, length-append, length-set}
-use lib.Seq.{length-take-le, take-suc, sets, sets-eq}
+use lib.Seq.{length-take-le, take-length, take-suc, sets, sets-eq, length-sets}
+use borrow.Rule.Slice.PartMut.{put_mid}
+use Rattle.std.proofs.lemmas.Slice.{put_mid-paste}
 use Rattle.io.specs.Counts.{IsPrefixLen}
 use Rattle.record.specs.declared.page.Page.{Page as LentPage}
 use Rattle.record.specs.Page.{Page, page, printed, more, Put}
@@ -27,17 +29,23 @@ more-append s t p =
 -- ---- by what calls have left
 
 -- nothing
-none_put : (p : Page) → Put [] 0 p p
+pub none_put : (p : Page) → Put [] 0 p p
 unfolding more
 none_put p = record { text = rw add-zero; end = omega arith }
 
 -- a wider bound
-put_within : {s : List ℕ} {k most : ℕ} {p q : Page} → k ≤ most → Put s k p q → Put s most p q
+pub put_within : {s : List ℕ} {k most : ℕ} {p q : Page} → k ≤ most → Put s k p q → Put s most p q
 put_within h x = record { text = x.text; end = omega arith }
 
 -- two pieces
-both_put : {a b : List ℕ} {j k : ℕ} {p q r : Page} → Put a j p q → Put b k q r → Put (a ++ b) (j + k) p r
+pub both_put : {a b : List ℕ} {j k : ℕ} {p q r : Page} → Put a j p q → Put b k q r → Put (a ++ b) (j + k) p r
 both_put {a} {b} {p = p} x y = record { text = y.text ∙ ap (more b) x.text ∙ sym (more-append a b p); end = omega arith }
+
+-- the five of a line
+pub line_put : {a b c d e : List ℕ} {i j k l m most : ℕ} {p q r s t u : Page} → Put a i p q → Put b j q r → Put c k r s → Put d l s t → Put e m t u
+    → i + j + k + l + m ≤ most
+    → Put (a ++ b ++ c ++ d ++ e) most p u
+line_put v w x y z h = put_within h (both_put (both_put (both_put (both_put v w) x) y) z)
 
 -- ---- on one lent slice
 
@@ -53,6 +61,20 @@ byte_puts {p} {q} b same text at = record {
   size = ap length text ∙ simp length-set;
   put = record { text = rw (text, at) refl; end = omega arith };
 }
+
+-- a piece that is copied: the part of the text that it takes holds it then
+pub piece_puts : {p q : LentPage} {s part : List ℕ} {k : ℕ} → p.at + length s ≤ length p.text.now → q.text.ghost_name ≡ p.text.ghost_name
+    → q.text.now ≡ put_mid p.at k p.text.now part → part ≡ s → k ≡ length s → q.at ≡ p.at + length s → Puts s (length s) p q
+unfolding more
+piece_puts {p} {q} {s} {part} {k} room same text copied size at =
+    let whole : put_mid p.at k p.text.now part ≡ sets p.text.now p.at s =
+    put_mid-paste p.at k p.text.now part s (length s) copied (sym size) refl
+    ∙ rw (take-length s, sets-eq s p.text.now p.at room) in
+    record {
+      same_slice = same;
+      size = ap length (text ∙ whole) ∙ length-sets p.text.now p.at s;
+      put = record { text = rw (text ∙ whole, at) refl; end = omega arith };
+    }
 
 -- the same text in other words, and a wider bound
 pub puts_as : {s t : List ℕ} {most : ℕ} {p q : LentPage} → s ≡ t → Puts s most p q → Puts t most p q
@@ -77,7 +99,7 @@ bytes_puts s {i} x h y = puts_as (rw (add-one, take-suc s i 0 h)) (both_puts x y
 
 -- ---- the whole text
 
-all_printed : {p : Page} {s lent : List ℕ} → 65536 ≤ length lent → Put s 65536 (page 0 lent) p → p ≡ printed s lent
+pub all_printed : {p : Page} {s lent : List ℕ} → 65536 ≤ length lent → Put s 65536 (page 0 lent) p → p ≡ printed s lent
 unfolding more printed
 all_printed {s = s} {lent} h x =
     let at = ap (λ q. q.at) x.text in

@@ -39,9 +39,9 @@ impl<'a> Page<'a> {
         requires { HasRoom (length s.now) self.old }
         ensures { Puts s.now (length s.now) self.old self.new }
     {
-        for b in s {
-            self.byte(*b);
-        }
+        let end = self.at + s.len();
+        self.text[self.at..end].copy_from_slice(s);
+        self.at = end;
     }
 
     // By the digits of `io`, which its contract tells; std's formatting promises none.

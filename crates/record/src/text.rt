@@ -110,7 +110,7 @@ impl Page<'_> {
 }
 
 // Room for an input: one byte more than the longest record, so that a longer input is seen to be longer. Rooms are
-// fixed, here and for the text: a program of records asks for no memory.
+// fixed, here and for the text: to read and answer a record takes no heap.
 pub fn room() -> [u8; 8213]
     ensures zeros { result ≡ replicate 8213 0 }
     ensures size { 8213 ≡ length result }

@@ -1,11 +1,11 @@
 // The first entry of a matrix that is at fault, column by column. A matrix of order n, at most 64, lies
 // column by column in a slice; in one of another length nothing is found.
 ghost use Rattle.std.specs.Prelude.{◌≡◌, ℕ, ◌+◌, ◌*◌, ◌<◌, ◌≤◌, length, map, not, Float};
-ghost use Rattle.std.specs.List.{list_all, position};
+ghost use Rattle.std.specs.List.{list_all};
 ghost use Rattle.loops.specs.First.{first_from};
 ghost use Rattle.scalar.specs.Class.{is_finite};
 ghost use Rattle.matrix.specs.Fits.{block_fits};
-ghost use Rattle.refusal.specs.Search.{first_row, first_place, spoils, first_not_finite, first_spoiling};
+ghost use Rattle.refusal.specs.Search.{first_row, not_finite, spoils, first_not_finite, first_spoiling};
 ghost use Rattle.refusal.specs.Inner.{IsSquare, found};
 
 use crate::refusal::Place;
@@ -49,28 +49,33 @@ fn is_whole(n: usize, len: usize) -> bool
     matrix::block_fits(n, len, 0, n, 0, n)
 }
 
-// The index of the first entry that is NaN or infinite: sought only where there is one.
-fn index_not_finite<E, F: Finite<E>>(t: &[E]) -> Option<usize>
-    ensures { result ≡ position (λ x. not (is_finite (F.value x))) t.now }
+// The first row of column j that is NaN or infinite.
+fn row_not_finite<E, F: Finite<E>>(t: &[E], n: usize, j: usize) -> Option<usize>
+    requires square { IsSquare n t.now }
+    requires column { j < n }
+    ensures { result ≡ found n (first_row (not_finite n (map F.value t.now)) n j) }
 {
-    if all_finite::<E, F>(t) {
-        return None;
-    }
-    t.iter().position(|x| !F::is_finite(x))
+    (0..n).find(
+        |i|
+            requires { (IsSquare n t.now) × (j < n) × (i.now < n) }
+            ensures { result ≡ not_finite n (map F.value t.entry.now) i.now j }
+        { !F::is_finite(&t[j * n + *i]) },
+    )
 }
 
-// The first entry that is NaN or infinite.
+// The first entry that is NaN or infinite: sought only where there is one.
 pub fn first_entry_not_finite<E, F: Finite<E>>(t: &[E], n: usize) -> Option<Place>
     ensures { result ≡ first_not_finite n (map F.value t.now) }
 {
-    if !is_whole(n, t.len()) {
+    if !is_whole(n, t.len()) || all_finite::<E, F>(t) {
         return None;
     }
-    let k = index_not_finite::<E, F>(t)?;
-    Some(Place {
-        row: k % n,
-        col: k / n,
-    })
+    for col in 0..n {
+        if let Some(row) = row_not_finite::<E, F>(t, n, col) {
+            return Some(Place { row, col });
+        }
+    }
+    None
 }
 
 // The same of floats.

@@ -1,6 +1,6 @@
 // A case: a call, and what it must come to.
 use crate::answer::Stored;
-use crate::slots::Slots;
+use crate::slots::{ROOM, Slots};
 use calls::{Call, Entry};
 use std::fmt;
 
@@ -35,23 +35,26 @@ struct Lent {
 impl Lent {
     // The first place that does not hold what is expected. For a slot that there is not it is 9999, which no slice
     // has: that number is printed.
-    fn unlike(self, came: &[f64], slots: &Slots) -> Option<usize> {
+    fn unlike(&self, came: &[f64], slots: &Slots) -> Option<usize> {
         match self.left {
-            Left::AsBefore => unlike(came, &slots.filled(self.from)),
+            Left::AsBefore => {
+                let (first, behind) = slots.lent(self.from);
+                unlike(came, first, behind)
+            }
             Left::Nan => other_than(came, 0x7ff8_0000_0000_0000),
             Left::Zero => other_than(came, 0),
             Left::Slot(k) => match slots.given(k) {
-                Some(numbers) => unlike(came, numbers),
+                Some(numbers) => unlike(came, numbers, &[]),
                 None => Some(9999),
             },
         }
     }
 }
 
-// The first place where two slices have numbers of other patterns.
-fn unlike(v: &[f64], w: &[f64]) -> Option<usize> {
+// The first place where a slice has a number of another pattern than two others have, one behind the other.
+fn unlike(v: &[f64], first: &[f64], behind: &[f64]) -> Option<usize> {
     v.iter()
-        .zip(w)
+        .zip(first.iter().chain(behind))
         .position(|(x, y)| scalar::bits_of(*x) != scalar::bits_of(*y))
 }
 
@@ -124,10 +127,13 @@ impl Case {
     // None where there is no such slot, or no room.
     pub(crate) fn run(&self, slots: &Slots) -> Option<Outcome> {
         let given = slots.given(self.slot)?.get(..self.count)?;
-        let [x, y, z] = self.lent;
-        let mut in_x = slots.filled(x.from);
-        let mut in_y = slots.filled(y.from);
-        let mut in_z = slots.filled(z.from);
+        let [x, y, z] = &self.lent;
+        let mut in_x = [0.0; ROOM];
+        let mut in_y = [0.0; ROOM];
+        let mut in_z = [0.0; ROOM];
+        slots.fill(x.from, &mut in_x);
+        slots.fill(y.from, &mut in_y);
+        slots.fill(z.from, &mut in_z);
         let in_x = in_x.get_mut(..x.len)?;
         let in_y = in_y.get_mut(..y.len)?;
         let in_z = in_z.get_mut(..z.len)?;

@@ -1,7 +1,9 @@
 // What calls are given and what lent memory is filled with, as the list has it so far.
 
+ghost use Rattle.std.specs.Prelude.{◌≡◌, ◌+◌, length};
+
 // Order 65 has its lengths too. Fixed, as what is lent to the library is.
-const ROOM: usize = 4225;
+pub(crate) const ROOM: usize = 4225;
 
 type Room = [f64; ROOM];
 
@@ -28,15 +30,21 @@ impl Slots {
         Some(())
     }
 
-    // What lent memory holds before a call: the numbers of the last slot from this place on, and from its first behind
-    // its last.
-    pub(crate) fn filled(&self, from: usize) -> Room {
+    // What lent memory holds before a call: the numbers of the last slot from this place on, and behind its last those
+    // from its first on.
+    pub(crate) fn lent(&self, from: usize) -> (&[f64], &[f64])
+        ensures { length result.0.now + length result.1.now ≡ 4225 }
+    {
         let slot = &self.0[5][..];
         let (behind, first) = slot.split_at(from % ROOM);
-        let mut room = [0.0; ROOM];
+        (first, behind)
+    }
+
+    // Fills a room of the caller's: one that is handed back would be copied, and stand on the stack twice.
+    pub(crate) fn fill(&self, from: usize, room: &mut Room) {
+        let (first, behind) = self.lent(from);
         let (front, back) = room.split_at_mut(first.len());
         front.copy_from_slice(first);
         back.copy_from_slice(behind);
-        room
     }
 }

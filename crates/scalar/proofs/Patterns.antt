@@ -1,8 +1,10 @@
 -- When a pattern is a NaN's and when a float is one, by the tests that the code makes; and from a float to its pattern and back.
 -- Assumes nothing.
-use Rattle.std.proofs.Common.{◌≡◌, ℕ, ◌%◌, ◌^◌, ◌<◌, ◌≤◌, true, not, T, sym, refl, ap, ◌∙◌, le-ltb, lt-ltb}
-use lib.Ieee.{Float, nan, inf, fin, binary64, of_bits, to_bits, fits, is_nan, nan_bits}
+use Rattle.std.proofs.Common.{◌≡◌, ℕ, ◌%◌, ◌^◌, ◌<◌, ◌≤◌, true, false, not, T, sym, refl, ap, ◌∙◌, subst, le-ltb, lt-ltb}
+use mathlib.Core.Bool.{false≢true}
+use lib.Ieee.{Float, nan, inf, fin, binary64, of_bits, to_bits, fits, lt, ne, is_nan, nan_bits}
 use lib.Ieee.Bits.{is_true, of_bits-to_bits, nan_bits_is, nan_bits_above}
+use lib.Ieee.Compare.{nan_differs}
 use Rattle.loops.specs.Tests.{falsity}
 
 pub only_nan : (x : Float) → is_nan x ≡ true → x ≡ nan
@@ -10,6 +12,24 @@ unfolding is_nan
 only_nan nan e = refl
 only_nan (inf s) e = cc
 only_nan (fin s m k) e = cc
+
+-- its other name
+pub is_nan_lem : (x : Float) → is_nan x ≡ true → x ≡ nan
+is_nan_lem = only_nan
+
+-- what equals itself is no NaN
+pub no_nan : (x : Float) → ne x x ≡ false → T (not (is_nan x))
+unfolding is_nan
+no_nan nan e = subst T (sym nan_differs ∙ e) tt
+no_nan (inf s) e = tt
+no_nan (fin s m k) e = tt
+
+-- what is below something is no NaN
+pub below_no_nan : (x y : Float) → lt x y ≡ true → T (not (is_nan x))
+unfolding is_nan lt
+below_no_nan nan y e = absurd (false≢true e)
+below_no_nan (inf s) y e = tt
+below_no_nan (fin s m k) y e = tt
 
 -- ---- of a pattern: above 7FF0000000000000, the sign aside
 

@@ -15,7 +15,7 @@ use Rattle.std.proofs.Common.{get_or-append-add}
 use Rattle.std.proofs.lemmas.List.{drop-drop, take_all}
 use Rattle.std.proofs.lemmas.Nat.{from_le_bytes-to_le_bytes_8}
 use Rattle.loops.specs.Rounded.{◌!◌}
-use Rattle.loops.specs.Table.{table_of}
+use Rattle.loops.specs.Table.{table-length, table_of}
 use Rattle.words.specs.Words.{byte_of}
 use Rattle.words.specs.Floats.{floats_of, bytes_of}
 use Rattle.words.proofs.Chunks.{le64_bytes, floats_of-length, floats_of-at}
@@ -61,6 +61,16 @@ flat_byte (x ∷ a) i l = go (dec_lt i 8) (flat_byte a (i - 8))
 pub bytes_flat : (a : List Float) → flat_map bytes a ≡ bytes_of a
 unfolding bytes_of
 bytes_flat a = table_of (8 * length a) _ (flat_map bytes a) 0 (flat-length a) (flat_byte a)
+
+pub bytes_of-length : (a : List Float) → length (bytes_of a) ≡ 8 * length a
+unfolding bytes_of
+bytes_of-length a = table-length (8 * length a) _
+
+pub bytes_of-at : (a : List Float) (k j : ℕ) → k < length a → j < 8 → get_or (bytes_of a) (8 * k + j) 0 ≡ byte_of (to_bits binary64 (a ! k)) j
+bytes_of-at a k j h l =
+    let q : (8 * k + j) / 8 ≡ k = omega arith in
+    let r : (8 * k + j) % 8 ≡ j = omega arith in
+    ap (λ b. get_or b (8 * k + j) 0) (sym (bytes_flat a)) ∙ flat_byte a (8 * k + j) (omega arith) ∙ rw (q, r)
 
 flat_word : (a : List Float) (k : ℕ) → k < length a → take 8 (drop (8 * k) (flat_map bytes a)) ≡ bytes (a ! k)
 flat_word [] k l = absurd (omega arith)

@@ -7,5 +7,5 @@ use Rattle.looproots_runs.proofs.answer.Goals as goal
 pub slice_bounds-input-end : goal.slice_bounds-input-end
 slice_bounds-input-end c = within c.fill.ensures c.in-Ok.is
 
-pub slice_bounds-answer-end : goal.slice_bounds-answer-end
-slice_bounds-answer-end c = sym (length-take-le _ _ (within c.fill.ensures c.in-Ok.is))
+pub slice_bounds-print-end : goal.slice_bounds-print-end
+slice_bounds-print-end c = sym (length-take-le _ _ (within c.fill.ensures c.in-Ok.is))
