@@ -14,7 +14,7 @@ mod draw;
 mod say;
 mod vectors;
 
-use std::io::{ErrorKind, Read};
+use std::io::Read;
 
 // A text has fewer bytes. Its room lies on the stack: the program asks for no memory, which it might not get.
 const ROOM: usize = 65536;
@@ -41,21 +41,16 @@ fn tell(rt: &impl Print, number: usize, line: &[u8]) {
     let _ = println!(rt);
 }
 
-// How much of the room a text fills. A read that fails ends it; one that is interrupted, or short, does not. The range
-// is there so that the loop has an end: reads might be interrupted for ever.
+// How much of the room the text fills. A read that fails ends it, and so does one that brings nothing; a short one does
+// not. `reading::fill` keeps no count where a read fails.
 fn fill(source: &mut impl Read, room: &mut [u8]) -> usize
     ensures { result ≤ length room.new }
 {
     let mut done = 0;
-    for _ in 0..u64::MAX {
-        if room.len() <= done {
-            break;
-        }
+    for _ in 0..room.len() {
         match source.read(&mut room[done..]) {
-            Ok(0) => break,
-            Ok(n) => done += n,
-            Err(e) if e.kind() == ErrorKind::Interrupted => {}
-            Err(_) => break,
+            Ok(n) if n > 0 => done += n,
+            _ => break,
         }
     }
     done
